@@ -1,0 +1,5 @@
+pub mod Program
+pub mod Inner
+pub mod State
+pub mod Step
+pub mod Words

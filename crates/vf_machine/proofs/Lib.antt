@@ -1,0 +1,5 @@
+pub mod Searches
+pub mod Runs
+pub mod Prefixes
+pub mod Ends
+pub mod Kept

@@ -1,0 +1,67 @@
+-- Moments of a run, one turn after another.
+use Rattle.std.proofs.Common.{◌≡◌, ℕ, zero, suc, ◌+◌, ◌≤◌, Bool, true, false, List, [], ◌++◌, cond, refl, sym, ◌∙◌, ap, arith, nat_lt, nat_le}
+use Rattle.std.proofs.lemmas.Bool.{false≢true}
+use Rattle.vf_base.specs.declared.run.Limits.{Limits}
+use Rattle.vf_machine.specs.Machine.{Machine, Move, go, stop, Sight}
+use Rattle.vf_machine.specs.Run.{Moment, Turned, moment_at, text_at, turn_at, turn_of, free_turn, performed, ended_before, cut_off, sight_at, at_zero, is_limit, is_ending}
+
+pub moment_at-zero : {S : Type 0} (m : Machine S) (stim : List ℕ) (limits : Limits) → moment_at m stim limits 0 ≡ at_zero m
+unfolding moment_at
+moment_at-zero m stim limits = refl
+
+pub moment_at-suc : {S : Type 0} (m : Machine S) (stim : List ℕ) (limits : Limits) (k : ℕ) → moment_at m stim limits (suc k) ≡ (turn_at m stim limits k).after
+unfolding moment_at
+moment_at-suc m stim limits k = refl
+
+pub text_at-zero : {S : Type 0} (m : Machine S) (stim : List ℕ) (limits : Limits) → text_at m stim limits 0 ≡ []
+unfolding text_at
+text_at-zero m stim limits = refl
+
+pub text_at-suc : {S : Type 0} (m : Machine S) (stim : List ℕ) (limits : Limits) (k : ℕ) → text_at m stim limits (suc k) ≡ text_at m stim limits k ++ (turn_at m stim limits k).text
+unfolding text_at
+text_at-suc m stim limits k = refl
+
+-- a fact of each branch of a turn is one of the turn
+pub branches : {S : Type 0} (P : Turned S → Type 0) (d t o : Bool) (x y z f : Turned S) → P x → P y → P z → P f → P (cond d x (cond t y (cond o z f)))
+branches P true t o x y z f px py pz pf = px
+branches P false true o x y z f px py pz pf = py
+branches P false false true x y z f px py pz pf = pz
+branches P false false false x y z f px py pz pf = pf
+
+pub branches_free : {S : Type 0} (P : Turned S → Type 0) (d : Bool) (x f : Turned S) → P x → P f → P (cond d x f)
+branches_free P true x f px pf = px
+branches_free P false x f px pf = pf
+
+-- a turn that no limit ended is the turn without limits
+unlimited_by : {S : Type 0} (d t o : Bool) (x y z p : Turned S) → is_limit y.mark ≡ true → is_limit z.mark ≡ true
+    → is_limit (cond d x (cond t y (cond o z (cond d x p)))).mark ≡ false
+    → cond d x (cond t y (cond o z (cond d x p))) ≡ cond d x p
+unlimited_by true t o x y z p hy hz h = refl
+unlimited_by false true o x y z p hy hz h = absurd (false≢true (sym h ∙ hy))
+unlimited_by false false true x y z p hy hz h = absurd (false≢true (sym h ∙ hz))
+unlimited_by false false false x y z p hy hz h = refl
+
+pub unlimited : {S : Type 0} (m : Machine S) (stim : List ℕ) (limits : Limits) (now : Moment S)
+    → is_limit (turn_of m stim limits now).mark ≡ false → turn_of m stim limits now ≡ free_turn m stim now
+unlimited m stim limits now h =
+    unlimited_by (m.drained now.state) (nat_le limits.turns now.header.turns) (nat_lt limits.output (free_turn m stim now).after.header.written)
+    _ _ _ (performed m now (m.move (sight_at m stim now) now.state)) refl refl h
+
+-- a performed turn counts its read
+pub performed-reads : {S : Type 0} (m : Machine S) (now : Moment S) (move : Move S)
+    → (performed m now move).after.header.reads ≡ now.header.reads + cond (m.at_read now.state) 1 0
+performed-reads m now (go state text save) = refl
+performed-reads m now (stop ending) = refl
+
+-- reads never fall
+abbrev Keeps : {S : Type 0} → Moment S → Turned S → Type 0
+Keeps now t = now.header.reads ≤ t.after.header.reads
+
+free_turn-reads : {S : Type 0} (m : Machine S) (stim : List ℕ) (now : Moment S) → now.header.reads ≤ (free_turn m stim now).after.header.reads
+free_turn-reads m stim now =
+    branches_free (Keeps now) (m.drained now.state) _ _ (omega arith) (omega (arith, performed-reads m now (m.move (sight_at m stim now) now.state)))
+
+pub reads_grow : {S : Type 0} (m : Machine S) (stim : List ℕ) (limits : Limits) (now : Moment S) → now.header.reads ≤ (turn_of m stim limits now).after.header.reads
+reads_grow m stim limits now =
+    branches (Keeps now) (m.drained now.state) (nat_le limits.turns now.header.turns) (nat_lt limits.output (free_turn m stim now).after.header.written)
+    _ _ _ _ (omega arith) (omega arith) (omega arith) (free_turn-reads m stim now)

@@ -1,0 +1,7 @@
+pub mod Machine
+pub mod Search
+pub mod Run
+pub mod Writes
+pub mod Pages
+pub mod Alone
+pub mod Laws
