@@ -5,8 +5,8 @@ use Rattle.std.proofs.lemmas.Option.{slice_get_within}
 use Rattle.vf_base.specs.declared.run.Limits.{Limits}
 use Rattle.vf_machine.specs.Machine.{Sight}
 use Rattle.vf_machine.specs.Laws.{IsStimulus}
-use Rattle.vf_machine.specs.Run.{moment_at}
-use Rattle.vf_machine.proofs.Kept.{KeptBy, SeesByte, moments_kept}
+use Rattle.vf_machine.specs.Run.{Moment, moment_at, turn_of, sight_at}
+use Rattle.vf_machine.proofs.Kept.{KeptBy, SeesByte, sees_byte, turn-kept, moments_kept}
 use Rattle.vf_design.specs.declared.code.Instr.{Instr}
 use Rattle.vf_design.specs.declared.code.Instr.TheVariants.{Getc, Jump, Unless, Show, Save, IncSave, Finish, Halt}
 use Rattle.vf_design.specs.Program.{Program, IsCode, IsWellFormed, NamesPlacesBelow, ends_code}
@@ -67,3 +67,9 @@ start_sound p wf = record { place = wf.code.some; value = tt }
 pub runs_sound : (p : Program) (stim : List ℕ) (limits : Limits) (k : ℕ) → IsWellFormed p → IsStimulus stim → IsSound p (moment_at (machine_of p) stim limits k).state
 runs_sound p stim limits k wf bytes =
     moments_kept (IsSound p) (machine_of p) stim limits bytes (start_sound p wf) (λ sight s byte sound. move_sound p sight s s.status wf byte sound) k
+
+pub turn_sound : (p : Program) (stim : List ℕ) (limits : Limits) (now : Moment State) → IsWellFormed p → IsStimulus stim → IsSound p now.state
+    → IsSound p (turn_of (machine_of p) stim limits now).after.state
+turn_sound p stim limits now wf bytes sound =
+    turn-kept (IsSound p) (machine_of p) stim limits now sound
+    (move_sound p (sight_at (machine_of p) stim now) now.state now.state.status wf (sees_byte (machine_of p) stim now bytes) sound)

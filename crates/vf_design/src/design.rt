@@ -50,7 +50,8 @@ impl Design {
 
     /// How many words a state has; they fill whole pages.
     pub fn word_count(&self) -> u32
-        ensures { result ≡ word_count self.now }
+        ensures count { result ≡ word_count self.now }
+        ensures formed { IsWellFormed self.now }
     {
         (FRONT + 8 * self.slots).div_ceil(64) * 64
     }

@@ -1,6 +1,6 @@
 -- Each run ends, and an ending is still.
 use Rattle.std.proofs.Common.{◌≡◌, ℕ, zero, suc, ◌+◌, ◌<◌, ◌≤◌, Bool, true, false, List, [], Option, Some, None, cond, refl, sym, ◌∙◌, ap, arith, nat_lt, nat_le, unwrap_or}
-use Rattle.std.proofs.lemmas.Bool.{false≢true, le-leb}
+use Rattle.std.proofs.lemmas.Bool.{false≢true, le-leb, leb-false}
 use Rattle.vf_base.specs.declared.run.Limits.{Limits}
 use Rattle.vf_base.specs.declared.run.SaveKind.{SaveKind}
 use Rattle.vf_machine.specs.Machine.{Machine, Move, go, stop, Sight}
@@ -82,3 +82,30 @@ pub ending_still : {S : Type 0} (m : Machine S) (stim : List ℕ) (limits : Limi
 ending_still m stim limits k h =
     let still = turn-still m stim limits (moment_at m stim limits k) h in
     record { state = ap (λ now. now.state) (moment_at-suc m stim limits k) ∙ still.0; text = still.1 }
+
+-- a turn counts as one or as none
+abbrev CountsOnce : {S : Type 0} → Moment S → Turned S → Type 0
+CountsOnce now t = (now.header.turns ≤ t.after.header.turns) × (t.after.header.turns ≤ now.header.turns + 1)
+
+performed-counts-once : {S : Type 0} (m : Machine S) (now : Moment S) (move : Move S) → CountsOnce now (performed m now move)
+performed-counts-once m now (go state text save) = (omega arith, omega arith)
+performed-counts-once m now (stop ending) = (omega arith, omega arith)
+
+pub counts_once : {S : Type 0} (m : Machine S) (stim : List ℕ) (limits : Limits) (now : Moment S)
+    → (now.header.turns ≤ (turn_of m stim limits now).after.header.turns) × ((turn_of m stim limits now).after.header.turns ≤ now.header.turns + 1)
+counts_once m stim limits now =
+    branches (CountsOnce now) (m.drained now.state) (nat_le limits.turns now.header.turns) (nat_lt limits.output (free_turn m stim now).after.header.written)
+    _ _ _ _ (omega arith, omega arith) (omega arith, omega arith) (omega arith, omega arith)
+    (branches_free (CountsOnce now) (m.drained now.state) _ _ (omega arith, omega arith) (performed-counts-once m now (m.move (sight_at m stim now) now.state)))
+
+below_by : {S : Type 0} (d t o : Bool) (x y z f : Turned S) → is_ending x.mark ≡ true → is_ending y.mark ≡ true
+    → is_ending (cond d x (cond t y (cond o z f))).mark ≡ false → t ≡ false
+below_by true t o x y z f hx hy h = absurd (false≢true (sym h ∙ hx))
+below_by false true o x y z f hx hy h = absurd (false≢true (sym h ∙ hy))
+below_by false false o x y z f hx hy h = refl
+
+-- a turn that is no ending comes before the limit on turns
+pub before_limit : {S : Type 0} (m : Machine S) (stim : List ℕ) (limits : Limits) (now : Moment S) → is_ending (turn_of m stim limits now).mark ≡ false → now.header.turns < limits.turns
+before_limit m stim limits now h =
+    leb-false limits.turns now.header.turns
+    (below_by (m.drained now.state) (nat_le limits.turns now.header.turns) (nat_lt limits.output (free_turn m stim now).after.header.written) _ _ _ _ refl refl h)

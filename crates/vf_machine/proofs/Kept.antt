@@ -1,5 +1,6 @@
 -- What every move of a machine keeps holds in each moment of its runs.
-use Rattle.std.proofs.Common.{◌≡◌, ℕ, zero, suc, ◌<◌, Bool, true, false, List, Option, Some, None, cond, sym, ap, subst, nat_lt, nat_le, slice_get, IfSome}
+use Rattle.std.proofs.Common.{◌≡◌, ℕ, zero, suc, ◌<◌, Bool, true, false, List, Option, Some, None, cond, refl, sym, ap, subst, arith, get_or, nat_lt, nat_le, slice_get, IfSome}
+use Rattle.std.proofs.lemmas.Option.{get_or_from_slice_get}
 use Rattle.vf_base.specs.declared.run.Limits.{Limits}
 use Rattle.vf_machine.specs.Machine.{Machine, Move, go, stop, Sight}
 use Rattle.vf_machine.specs.Run.{Moment, Turned, moment_at, turn_at, turn_of, free_turn, performed, sight_at}
@@ -41,3 +42,11 @@ moments_kept P m stim limits bytes first kept (suc k) =
     let before = moments_kept P m stim limits bytes first kept k in
     subst (λ after. P after.state) (sym (moment_at-suc m stim limits k))
     (turn-kept P m stim limits now before (kept (sight_at m stim now) now.state (sees_byte m stim now bytes) before))
+
+stimulus_by : (byte : Option ℕ) → ((x : ℕ) → byte ≡ Some x → x < 256) → IfSome byte (λ b. b < 256)
+stimulus_by None h = tt
+stimulus_by (Some x) h = h x refl
+
+-- a slice of bytes is a stimulus
+pub stimulus_of_bytes : (stim : List ℕ) → ((at : ℕ) → get_or stim at 0 < 256) → IsStimulus stim
+stimulus_of_bytes stim bytes = λ at. stimulus_by (slice_get stim at) (λ x e. omega (arith, bytes at, get_or_from_slice_get stim at x 0 e))

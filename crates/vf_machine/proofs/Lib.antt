@@ -3,3 +3,5 @@ pub mod Runs
 pub mod Prefixes
 pub mod Ends
 pub mod Kept
+pub mod Changes
+pub mod AloneLemmas

@@ -65,3 +65,18 @@ pub reads_grow : {S : Type 0} (m : Machine S) (stim : List ℕ) (limits : Limits
 reads_grow m stim limits now =
     branches (Keeps now) (m.drained now.state) (nat_le limits.turns now.header.turns) (nat_lt limits.output (free_turn m stim now).after.header.written)
     _ _ _ _ (omega arith) (omega arith) (omega arith) (free_turn-reads m stim now)
+
+-- a turn reads once at most
+abbrev ReadsOnce : {S : Type 0} → Moment S → Turned S → Type 0
+ReadsOnce now t = t.after.header.reads ≤ now.header.reads + 1
+
+once : (b : Bool) → cond b 1 0 ≤ 1
+once true = omega arith
+once false = omega arith
+
+pub reads_once : {S : Type 0} (m : Machine S) (stim : List ℕ) (limits : Limits) (now : Moment S) → (turn_of m stim limits now).after.header.reads ≤ now.header.reads + 1
+reads_once m stim limits now =
+    branches (ReadsOnce now) (m.drained now.state) (nat_le limits.turns now.header.turns) (nat_lt limits.output (free_turn m stim now).after.header.written)
+    _ _ _ _ (omega arith) (omega arith) (omega arith)
+    (branches_free (ReadsOnce now) (m.drained now.state) _ _ (omega arith)
+    (omega (arith, performed-reads m now (m.move (sight_at m stim now) now.state), once (m.at_read now.state))))

@@ -28,18 +28,21 @@ abbrev pub passing_turn : {S : Type 0} → Machine S → List ℕ → Limits →
 passing_turn m stim limits budget =
     first (λ k. nat_lt budget (pages_touched m stim limits k)) (turns_before_end m stim limits + 1)
 
+-- what becomes of a run that passes the budget with so many turns, or that ends after so many
+abbrev pub outcome_at : {S : Type 0} → Machine S → List ℕ → Limits → Option ℕ → ℕ → Outcome
+outcome_at m stim limits (Some k) end = Pages (pages_touched m stim limits k)
+outcome_at m stim limits None end =
+    Done (ending_of (mark_at m stim limits end)) (text_at m stim limits end) (turn_at m stim limits end).after.header.turns
+
 -- The outcome of the lone run: the pages touched with the first turn that passes the budget; where none does, the
 -- first ending, all bytes written before it, and the turns counted with it.
 abbrev pub alone : {S : Type 0} → Machine S → List ℕ → Limits → ℕ → Outcome
-alone m stim limits budget = elim (passing_turn m stim limits budget) [
-  | Some k ↦ Pages (pages_touched m stim limits k)
-  | None ↦ let end = turns_before_end m stim limits in
-      Done (ending_of (mark_at m stim limits end)) (text_at m stim limits end) (turn_at m stim limits end).after.header.turns
-]
+alone m stim limits budget = outcome_at m stim limits (passing_turn m stim limits budget) (turns_before_end m stim limits)
+
+abbrev pub performed_at : {S : Type 0} → Machine S → List ℕ → Limits → Option ℕ → ℕ → ℕ
+performed_at m stim limits (Some k) end = k - 1
+performed_at m stim limits None end = (turn_at m stim limits end).after.header.turns
 
 -- How many turns the lone run performs: those before the one that passes the budget, or those counted with the ending.
 abbrev pub turns_alone : {S : Type 0} → Machine S → List ℕ → Limits → ℕ → ℕ
-turns_alone m stim limits budget = elim (passing_turn m stim limits budget) [
-  | Some k ↦ k - 1
-  | None ↦ (turn_at m stim limits (turns_before_end m stim limits)).after.header.turns
-]
+turns_alone m stim limits budget = performed_at m stim limits (passing_turn m stim limits budget) (turns_before_end m stim limits)

@@ -3,6 +3,8 @@ use Rattle.std.specs.Prelude.{◌≡◌, ℕ, suc, ◌<◌, ◌≤◌, true, fal
 use Rattle.vf_base.specs.declared.run.Limits.{Limits}
 use Rattle.vf_machine.specs.Machine.{Machine}
 use Rattle.vf_machine.specs.Run.{moment_at, turn_at, mark_at, text_at, is_ending, is_limit}
+use Rattle.vf_machine.specs.Writes.{IsChange, writes_page}
+use Rattle.vf_machine.specs.Pages.{page_differs}
 use Rattle.vf_machine.specs.Alone.{turns_before_end}
 
 -- none of the first k turns ended the run by a limit
@@ -36,3 +38,8 @@ pub record EndingIsStill {S : Type 0} (m : Machine S) (stim : List ℕ) (limits 
 -- a stimulus is bytes
 abbrev pub IsStimulus : List ℕ → Type 0
 IsStimulus stim = (at : ℕ) → IfSome (slice_get stim at) (λ byte. byte < 256)
+
+-- the pages that a change touches are those of its writes
+abbrev pub ChangedPages : Type 0
+ChangedPages =
+    (before after : List ℕ) (writes : List (ℕ × ℕ)) (page : ℕ) → IsChange before after writes → page_differs before after page ≡ writes_page writes page

@@ -1,5 +1,5 @@
 -- New words at addresses, as a turn gives them.
-use Rattle.std.specs.Prelude.{◌≡◌, ◌≢◌, ℕ, suc, ◌<◌, Bool, true, ◌&&◌, nat_le, List, [], ◌∷◌, length, slice_index, slice_set}
+use Rattle.std.specs.Prelude.{◌≡◌, ◌≢◌, ℕ, suc, ◌/◌, ◌<◌, Bool, true, false, ◌&&◌, ◌||◌, ◌==◌, nat_le, List, [], ◌∷◌, length, slice_index, slice_set}
 
 -- the words after the writes
 abbrev pub written : List ℕ → List (ℕ × ℕ) → List ℕ
@@ -21,3 +21,8 @@ pub record IsChange (before after : List ℕ) (writes : List (ℕ × ℕ)) : Typ
   pub rises : rises_from 0 writes ≡ true
   pub change : AllChange before writes
   pub result : written before writes ≡ after
+
+-- whether an address of the writes is on the page
+abbrev pub writes_page : List (ℕ × ℕ) → ℕ → Bool
+writes_page [] page = false
+writes_page (write ∷ more) page = (write.0 / 64 == page) || writes_page more page

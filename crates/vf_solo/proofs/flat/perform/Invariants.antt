@@ -1,0 +1,10 @@
+use Rattle.std.proofs.Common.{◌≡◌, drop, vec_len}
+use Rattle.vf_machine.specs.Writes.{written}
+use Rattle.vf_solo.specs.Writes.{AllInside}
+use Rattle.vf_solo.proofs.flat.perform.Given as goal
+
+-- what is left of the writes leads to the same words as all of them
+abbrev pub invariant-loop-write : goal.invariant-loop-write
+invariant-loop-write l =
+    (written l.words.items (drop l.write-index l.writes) ≡ written l.initial.words.items l.writes)
+    × AllInside (vec_len l.words) (drop l.write-index l.writes)

@@ -1,0 +1,63 @@
+ghost use Rattle.std.specs.Prelude.{◌≡◌, ◌+◌, ◌-◌, ◌<◌, ◌≤◌, ◌^◌, IfOk, OnOk};
+ghost use Rattle.vf_machine.specs.Alone.{alone, turns_alone};
+ghost use Rattle.vf_design.specs.Words.{machine_of};
+
+use crate::flat::{Flat, perform};
+use crate::touched::Touched;
+use std::alloc::Global;
+use std::sync::ledger::Ledger;
+use vf_base::{Header, Limits, Memory, Outcome, Steps, Text};
+use vf_design::{Design, words_at_zero};
+use vf_kernel::{Mark, turn};
+
+/// Runs a design alone, from time zero, on a stimulus. `budget` is the most pages of 64 words that the
+/// run may touch; the turn that would pass it is not performed. The step counter moves by the turns
+/// performed, also where memory is wanting. The only refusal is want of memory.
+pub fn solo<L: Ledger>(
+    alloc: Global,
+    design: &Design,
+    stim: &[u8],
+    limits: &Limits,
+    budget: u32,
+    steps: &mut Steps<L>,
+) -> Result<Outcome, Memory>
+    requires { steps.old.count + limits.now.turns < 2 ^ 64 - 1 }
+    ensures outcome { IfOk result (λ outcome. outcome ≡ alone (machine_of design.now) stim.now limits.now budget) }
+    ensures steps { OnOk result (steps.new.count ≡ steps.old.count + turns_alone (machine_of design.now) stim.now limits.now budget) }
+    ensures moved { (steps.old.count ≤ steps.new.count) × (steps.new.count ≤ steps.old.count + limits.now.turns) }
+    ensures parts { steps.new.parts ≡ steps.old.parts }
+{
+    let mut flat = Flat {
+        words: words_at_zero(alloc, design)?,
+        past_end: false,
+    };
+    let mut touched = Touched::new(alloc, design.word_count() / 64)?;
+    let mut text = Text::new(Vec::new(alloc));
+    let mut header = Header {
+        turns: 0,
+        reads: 0,
+        written: 0,
+    };
+    'turns: loop {
+        let next = turn(alloc, design, &flat, &header, stim, limits)?;
+        if let Mark::Ended(ending) = next.mark {
+            if next.header.turns > header.turns {
+                steps.tick();
+            }
+            return Ok(Outcome::Done {
+                ending,
+                text,
+                turns: next.header.turns,
+            });
+        }
+        touched.mark(&next.writes);
+        if touched.count() > budget {
+            return Ok(Outcome::Pages(touched.count()));
+        }
+        steps.tick();
+        text.push_all(next.text.bytes())?;
+        perform(&mut flat.words, &next.writes);
+        header = next.header;
+        flat.past_end = header.reads > stim.len() as u64;
+    }
+}
