@@ -1,0 +1,5 @@
+pub mod Tables
+pub mod PlaneLemmas
+pub mod ListLemmas
+pub mod NumberLemmas
+pub mod OperatorLemmas

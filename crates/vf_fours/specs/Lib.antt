@@ -1,0 +1,6 @@
+pub mod Bits
+pub mod Numbers
+pub mod Operators
+pub mod Choices
+pub mod Planes
+pub mod Shapes

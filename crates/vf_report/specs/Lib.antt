@@ -1,0 +1,4 @@
+pub mod Tested
+pub mod Totals
+pub mod Texts
+pub mod Laws

@@ -1,0 +1,6 @@
+pub mod ReadLemmas
+pub mod WriteLemmas
+pub mod SayLemmas
+pub mod ExactLemmas
+pub mod CauseLemmas
+pub mod PlanLemmas

@@ -1,0 +1,6 @@
+pub mod Plan
+pub mod Words
+pub mod Fault
+pub mod Report
+pub mod Answer
+pub mod Steps

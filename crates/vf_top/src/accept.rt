@@ -1,0 +1,104 @@
+ghost use Rattle.std.specs.Prelude.{◌≡◌, ◌^◌, ◌≤◌, length, map};
+ghost use Rattle.std.specs.Option.{option_map};
+ghost use Rattle.std.specs.String.{string_bytes};
+ghost use Rattle.vf_top.specs.Plan.{plan_of};
+ghost use Rattle.vf_top.specs.Steps.{Fetched, Accepts, BuildsDesign, ReadsTest};
+ghost use Rattle.vf_top.specs.Words.{files_of, begins_with_dash};
+
+use crate::plan::{EarlyPlan, OneTest, one_test};
+use crate::refusal::{Refusal, What};
+use std::alloc::Global;
+use vf_design::Design;
+use vf_early::{EarlyFault, early_design};
+use vf_ports::{Shelf, ShelfRefusal};
+
+/// How many event slots a design has.
+pub const SLOTS: u32 = 1024;
+
+/// The names of the design's file and the plan's.
+pub fn files_in(words: &[String]) -> Option<(&str, &str)>
+    ensures { option_map (λ names. (names.0.now, names.1.now)) result ≡ files_of (map string_bytes words.now) }
+{
+    match words {
+        [design, plan] => {
+            if is_option(design) || is_option(plan) {
+                None
+            } else {
+                Some((design.as_str(), plan.as_str()))
+            }
+        }
+        _ => None,
+    }
+}
+
+/// Whether a word begins with a dash.
+fn is_option(word: &String) -> bool
+    ensures { result ≡ begins_with_dash (string_bytes word.now) }
+{
+    match word.as_bytes() {
+        [first, ..] => *first == b'-',
+        [] => false,
+    }
+}
+
+/// Reads one of the two files.
+fn fetch<S: Shelf>(alloc: Global, shelf: &mut S, name: &str, what: What) -> Result<Vec<u8>, Refusal>
+    ensures kept { S.holds shelf.new ≡ S.holds shelf.old }
+    ensures fetched { Fetched (λ bytes. bytes.items)
+        (record { holds = S.holds shelf.old; failed = S.failed shelf.old; faults = S.faults shelf.old })
+        (record { holds = S.holds shelf.new; failed = S.failed shelf.new; faults = S.faults shelf.new })
+        name.now what result }
+{
+    let mut bytes = Vec::new(alloc);
+    match shelf.fetch(name, what.limit(), &mut bytes) {
+        Ok(()) => Ok(bytes),
+        Err(ShelfRefusal::Failed) => Err(Refusal::Failed(what)),
+        Err(ShelfRefusal::TooLong { taken: _ }) => Err(Refusal::TooLong(what)),
+        Err(ShelfRefusal::Memory) => Err(Refusal::Memory),
+    }
+}
+
+/// The design that the bytes spell.
+fn design_in(alloc: Global, bytes: &[u8]) -> Result<Design, Refusal>
+    requires { length bytes.now ≤ 2 ^ 20 }
+    ensures { BuildsDesign bytes.now result }
+{
+    match early_design(alloc, bytes, SLOTS) {
+        Ok(design) => Ok(design),
+        Err(EarlyFault::NotBuilt) => Err(Refusal::DesignNotBuilt),
+        Err(EarlyFault::Memory) => Err(Refusal::Memory),
+    }
+}
+
+/// The test that the bytes of a plan describe.
+fn test_in(alloc: Global, bytes: &[u8]) -> Result<OneTest, Refusal>
+    ensures { ReadsTest (plan_of bytes.now) result }
+{
+    match one_test(alloc, bytes) {
+        Ok(test) => Ok(test),
+        Err(EarlyPlan::NotJson) => Err(Refusal::PlanNotJson),
+        Err(EarlyPlan::NotBuilt) => Err(Refusal::PlanNotBuilt),
+        Err(EarlyPlan::Memory) => Err(Refusal::Memory),
+    }
+}
+
+/// Reads the words, the design and the plan, in this order.
+pub fn accept<S: Shelf>(
+    alloc: Global,
+    words: &[String],
+    shelf: &mut S,
+) -> Result<(Design, OneTest), Refusal>
+    ensures { Accepts (λ x. x.0) (λ x. x.1) (map string_bytes words.now)
+        (record { holds = S.holds shelf.old; failed = S.failed shelf.old; faults = S.faults shelf.old })
+        (record { holds = S.holds shelf.new; failed = S.failed shelf.new; faults = S.faults shelf.new })
+        result }
+{
+    let Some((design_name, plan_name)) = files_in(words) else {
+        return Err(Refusal::Words);
+    };
+    let bytes = fetch(alloc, shelf, design_name, What::Design)?;
+    let design = design_in(alloc, &bytes)?;
+    let bytes = fetch(alloc, shelf, plan_name, What::Plan)?;
+    let test = test_in(alloc, &bytes)?;
+    Ok((design, test))
+}

@@ -1,0 +1,43 @@
+//! The program `vfarm`: it makes the real files, outputs and step counter, and hands them to the top
+//! call.
+//!
+//! It stands on vf_base, vf_ports and vf_top. All that it does is `command_here`; here is only what
+//! that call is given.
+#![tactic(auto)]
+
+ghost use Rattle.std.specs.Prelude.{◌≡◌};
+
+mod adapters;
+
+use adapters::{FileShelf, OutSink};
+use std::marker::Brand;
+use std::process::ExitCode;
+use std::sync::ledger::{Blank, Ledger};
+use std::{env, io};
+use vf_base::Steps;
+use vf_top::command_here;
+
+/// Runs the program over a new counter of steps.
+fn counted<L: Ledger>(rt: &HostRuntime, words: &[String], blank: Blank) -> u8
+    requires name { blank.name ≡ L.name }
+    requires parts { blank.parts ≡ L.parts }
+{
+    let (_, share) = blank.open::<L>();
+    let mut steps = Steps::new(share);
+    command_here(
+        rt.alloc(),
+        words,
+        &mut FileShelf::new(rt),
+        &mut OutSink::new(rt.stdout()),
+        &mut OutSink::new(rt.stderr()),
+        &mut steps,
+    )
+}
+
+fn main(rt: HostRuntime) -> io::Result<ExitCode> {
+    let mut words = Vec::new(rt.alloc());
+    for word in env::args(&rt)?.skip(1) {
+        words.push(word)?;
+    }
+    Ok(ExitCode::from(counted::<Brand>(&rt, &words, Blank::new(1))))
+}
