@@ -1,0 +1,4 @@
+pub mod ListLemmas
+pub mod SetLemmas
+pub mod StackLemmas
+pub mod CountLemmas

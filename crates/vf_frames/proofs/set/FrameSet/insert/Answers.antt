@@ -1,0 +1,9 @@
+use Rattle.std.proofs.Common.{arith}
+use Rattle.vf_frames.proofs.SetLemmas.{bit_is-insert, frames_in-gain}
+use Rattle.vf_frames.proofs.set.FrameSet.insert.Goals as goal
+
+pub returns-clause-each : goal.returns-clause-each
+returns-clause-each c =
+    let set = c.args.self.now in
+    frames_in-gain set.limit c.args.frame set.words.items _ c.requires
+    (λ g _. bit_is-insert set.words.items c.args.frame c.index_mut.result.now (omega arith) c.index_mut.ensures.value g)

@@ -1,0 +1,71 @@
+ghost use Rattle.std.specs.Prelude.{◌≡◌, ℕ, ◌+◌, ◌/◌, ◌<◌, [], ◌&&◌, ◌||◌, ◌==◌, not, slice_index, bit_or, IfOk, vec_len};
+ghost use Rattle.vf_frames.specs.Numbers.{has};
+ghost use Rattle.vf_frames.specs.FrameSets.{frames_in};
+
+use std::alloc::{AllocError, Global};
+
+/// A set of frames below a limit, one bit for each.
+#[derive(Debug, Drop)]
+pub(crate) struct FrameSet {
+    pub(crate) words: Vec<u64>,
+    pub(crate) limit: u32,
+    ghost wide: { vec_len words ≡ (limit + 63) / 64 },
+}
+
+impl FrameSet {
+    pub(crate) fn new(alloc: Global, limit: u32) -> Result<FrameSet, AllocError>
+        ensures empty { IfOk result (λ set. frames_in set.limit set.words.items ≡ []) }
+        ensures limit { IfOk result (λ set. set.limit ≡ limit) }
+    {
+        let count = (u64::from(limit) + 63) / 64;
+        let words = vec![in alloc; 0u64; count as usize]?;
+        Ok(FrameSet { words, limit })
+    }
+
+    pub(crate) fn contains(&self, frame: u32) -> bool
+        requires { frame < self.now.limit }
+        ensures { result ≡ has frame (frames_in self.now.limit self.now.words.items) }
+    {
+        (self.words[(frame / 64) as usize] >> (frame % 64)) & 1 == 1
+    }
+
+    pub(crate) fn insert(&mut self, frame: u32)
+        requires { frame < self.old.limit }
+        ensures each { (g : ℕ) → has g (frames_in self.new.limit self.new.words.items)
+            ≡ ((g == frame) || has g (frames_in self.old.limit self.old.words.items)) }
+        ensures limit { self.new.limit ≡ self.old.limit }
+    {
+        self.words[(frame / 64) as usize] |= 1 << (frame % 64);
+    }
+
+    pub(crate) fn remove(&mut self, frame: u32)
+        requires { frame < self.old.limit }
+        ensures each { (g : ℕ) → has g (frames_in self.new.limit self.new.words.items)
+            ≡ (not (g == frame) && has g (frames_in self.old.limit self.old.words.items)) }
+        ensures limit { self.new.limit ≡ self.old.limit }
+    {
+        self.words[(frame / 64) as usize] &= !(1 << (frame % 64));
+    }
+
+    pub(crate) fn unite(&mut self, other: &FrameSet)
+        requires { other.now.limit ≡ self.old.limit }
+        ensures each { (g : ℕ) → has g (frames_in self.new.limit self.new.words.items)
+            ≡ (has g (frames_in self.old.limit self.old.words.items)
+            || has g (frames_in other.now.limit other.now.words.items)) }
+        ensures limit { self.new.limit ≡ self.old.limit }
+    {
+        or_words(&mut self.words, &other.words);
+    }
+}
+
+// Each word takes the bits of its fellow.
+fn or_words(words: &mut Vec<u64>, other: &Vec<u64>)
+    requires { vec_len other.now ≡ vec_len words.old }
+    ensures len { vec_len words.new ≡ vec_len words.old }
+    ensures each { (k : ℕ) → k < vec_len words.old
+        → slice_index words.new.items k ≡ bit_or (slice_index words.old.items k) (slice_index other.now.items k) }
+{
+    for i in 0..words.len() {
+        words[i] |= other[i];
+    }
+}
