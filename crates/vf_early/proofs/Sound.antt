@@ -127,6 +127,10 @@ condition_of : (variable : List ℕ) (t : List ℕ) (own : Tokens) (condition : 
 condition_of variable t own condition (inl p) is = equal own is (ap (λ (x : List ℕ). variable ∷ x ∷ own) p.1) p.0
 condition_of variable t own condition (inr p) is = differs own is (ap (λ (x : List ℕ). variable ∷ x ∷ own) p.1) p.0
 
+condition_spelled : (variable : List ℕ) (ts behind : Tokens) (sign : List ℕ) (rest own further : Tokens) → ts ≡ codes "(" ∷ variable ∷ behind → behind ≡ sign ∷ rest → rest ≡ own ++ codes ")" ∷ further
+    → ts ≡ codes "(" ∷ ((variable ∷ sign ∷ own) ++ codes ")" ∷ further)
+condition_spelled variable ts behind sign rest own further a b c = a ∙ ap (λ (us : Tokens). codes "(" ∷ variable ∷ us) (b ∙ ap (λ (us : Tokens). sign ∷ us) c)
+
 condition_is : (variable : List ℕ) (ts : Tokens) (x : Condition × Tokens) → condition_at variable ts ≡ Some x → IsConditionAt variable ts x
 unfolding condition_at
 condition_is variable ts x h =
@@ -141,8 +145,7 @@ condition_is variable ts x h =
     let close : n.0.1 ≡ codes ")" ∷ c.0 = after_is (codes ")") n.0.1 c.0 c.1 in
     let test = variable ∷ b.0.0 ∷ operand.own in
     let behind : b.0.1 ≡ operand.own ++ codes ")" ∷ c.0 = operand.spelled ∙ ap (λ (us : Tokens). operand.own ++ us) close in
-    let whole : ts ≡ codes "(" ∷ (test ++ codes ")" ∷ c.0) =
-    after_all_is (codes "(" ∷ variable ∷ []) ts a.0 a.1 ∙ ap (λ (us : Tokens). codes "(" ∷ variable ∷ us) (next_is a.0 b.0 b.1 ∙ ap (λ (us : Tokens). b.0.0 ∷ us) behind) in
+    let whole = condition_spelled variable ts a.0 b.0.0 b.0.1 operand.own c.0 (after_all_is (codes "(" ∷ variable ∷ []) ts a.0 a.1) (next_is a.0 b.0 b.1) behind in
     subst (λ (y : Condition × Tokens). IsConditionAt variable ts y) same
     (record { test = test; is = condition_of variable b.0.0 operand.own made.0 (comparison_is b.0.0 e.0 e.1) operand.is; spelled = whole })
 

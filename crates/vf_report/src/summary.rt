@@ -55,7 +55,8 @@ impl Summary {
         }
     }
 
-    /// Counts one more test. `outcome` is `None` where memory was wanting.
+    /// Counts one more test. `outcome` is `None` where memory was wanting. There are less than 2^32
+    /// tests, and the turns of the completed ones sum to less than 2^64.
     pub fn add(&mut self, expectation: Option<&[u8]>, outcome: Option<&Outcome>)
         requires tests { self.old.tests + 1 < 2 ^ 32 }
         requires turns { self.old.turns + turns_of (option_copied outcome) < 2 ^ 64 }

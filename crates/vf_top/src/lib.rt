@@ -14,3 +14,6 @@ mod report;
 
 pub use command::command_here;
 pub use plan::{EarlyPlan, OneTest, one_test};
+
+#[cfg(test)]
+mod tests;

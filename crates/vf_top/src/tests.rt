@@ -1,0 +1,269 @@
+//! Whole commands over files and outputs in memory.
+
+ghost use Rattle.std.specs.Prelude.{◌≡◌, ◌≤◌};
+
+use crate::command_here;
+use std::alloc::Global;
+use std::marker::Brand;
+use std::sync::ledger::{Blank, Ledger};
+use std::test::Fail;
+use vf_base::{Memory, Steps, Text};
+use vf_ports::{MemShelf, MemSink, Shelf, Sink, SureShelf, SureSink};
+
+fn echo() -> &'static str {
+    "module echo; integer c; initial begin c = $fgetc(32'h8000_0000); while (c != -1) begin $write(\"%c\", c); if (c == 10) $save(\"echo\"); c = $fgetc(32'h8000_0000); end $finish(0); end endmodule"
+}
+
+fn empty_design() -> &'static str {
+    "module m; endmodule"
+}
+
+fn hi() -> &'static str {
+    "{\"version\":1,\"nodes\":[{\"name\":\"t\",\"text\":\"hi\\n\",\"test\":true}]}"
+}
+
+fn no_text() -> &'static str {
+    "{\"version\":1,\"nodes\":[{\"name\":\"t\",\"text\":\"\",\"test\":true}]}"
+}
+
+fn two_nodes() -> &'static str {
+    "{\"version\":1,\"nodes\":[{\"name\":\"t\",\"text\":\"\",\"test\":true},{\"name\":\"u\",\"text\":\"\",\"test\":true}]}"
+}
+
+fn hi_test() -> &'static str {
+    "test t finish:0 turns 20 bytes 3 out 68690a expect none\n"
+}
+
+fn hi_report() -> &'static str {
+    "test t finish:0 turns 20 bytes 3 out 68690a expect none\ntests 1 completed 1 met 0 failed 0 pages 0 memory 0 turns 20\n"
+}
+
+fn no_text_report() -> &'static str {
+    "test t finish:0 turns 4 bytes 0 out - expect none\ntests 1 completed 1 met 0 failed 0 pages 0 memory 0 turns 4\n"
+}
+
+// Runs the command over a new counter of steps.
+fn counted<S: Shelf, K: Sink, E: Sink, L: Ledger>(
+    alloc: Global,
+    words: &[String],
+    shelf: &mut S,
+    out: &mut K,
+    err: &mut E,
+    blank: Blank,
+) -> u8
+    requires name { blank.name ≡ L.name }
+    requires parts { blank.parts ≡ L.parts }
+{
+    let (_, share) = blank.open::<L>();
+    let mut steps = Steps::new(share);
+    command_here(alloc, words, shelf, out, err, &mut steps)
+}
+
+fn owned(alloc: Global, words: &[&str]) -> Result<Vec<String>, Memory> {
+    let mut all = Vec::new(alloc);
+    for word in words {
+        all.push(String::from_str(alloc, word)?)?;
+    }
+    Ok(all)
+}
+
+fn text(alloc: Global, bytes: &str) -> Result<Text, Memory> {
+    Ok(Text::new(Vec::from_slice(alloc, bytes.as_bytes())?))
+}
+
+// The files "d.v" and "p.json".
+fn files(alloc: Global, design: &str, plan: &str) -> Result<Vec<(Text, Text)>, Memory> {
+    let mut files = Vec::new(alloc);
+    files.push((text(alloc, "d.v")?, text(alloc, design)?))?;
+    files.push((text(alloc, "p.json")?, text(alloc, plan)?))?;
+    Ok(files)
+}
+
+// A list of calls that fail: none where `call` is 0.
+fn failing(alloc: Global, call: u64) -> Result<Vec<u64>, Memory> {
+    let mut calls = Vec::new(alloc);
+    if call != 0 {
+        calls.push(call)?;
+    }
+    Ok(calls)
+}
+
+// What a command answered: its status, and what went to the output and to `err`.
+#[derive(Drop)]
+struct Answered {
+    status: u8,
+    out: MemSink,
+    err: MemSink,
+}
+
+// Runs the command on the words, where the fetch and the write of these numbers fail, and a write takes
+// `most` bytes at most.
+fn told(
+    alloc: Global,
+    words: &[&str],
+    files: Vec<(Text, Text)>,
+    fetch_fails: u64,
+    write_fails: u64,
+    most: usize,
+) -> Result<Answered, Memory>
+    requires { 1 ≤ most }
+{
+    let words = owned(alloc, words)?;
+    let mut shelf = MemShelf::new(alloc, files, failing(alloc, fetch_fails)?);
+    let mut out = MemSink::new(alloc, 4096, most, failing(alloc, write_fails)?)?;
+    let mut err = MemSink::new(alloc, 4096, most, Vec::new(alloc))?;
+    let blank = Blank::new(1);
+    let status = counted::<MemShelf, MemSink, MemSink, Brand>(
+        alloc, &words, &mut shelf, &mut out, &mut err, blank,
+    );
+    Ok(Answered { status, out, err })
+}
+
+#[test]
+fn the_echo_says_what_it_reads(rt: HostRuntime) -> Result<(), Fail> {
+    for (plan, report) in [(hi(), hi_report()), (no_text(), no_text_report())] {
+        for most in [4096usize, 1] {
+            let files = files(rt.alloc(), echo(), plan)?;
+            let told = told(rt.alloc(), &["d.v", "p.json"], files, 0, 0, most)?;
+            assert_eq!(rt; told.status, 0);
+            assert_eq!(rt; told.out.bytes(), report.as_bytes());
+            assert_eq!(rt; told.err.bytes(), "".as_bytes());
+        }
+    }
+    Ok(())
+}
+
+#[test]
+fn each_refusal_tells_its_cause(rt: HostRuntime) -> Result<(), Fail> {
+    for (design, plan, status, line) in [
+        (
+            empty_design(),
+            hi(),
+            3u8,
+            "vfarm: design: early 1 NotBuilt\n",
+        ),
+        (empty_design(), "{", 3, "vfarm: design: early 1 NotBuilt\n"),
+        (
+            echo(),
+            "{\"version\":1,\"nodes\":[",
+            4,
+            "vfarm: plan: 1 NotJson\n",
+        ),
+        (echo(), two_nodes(), 4, "vfarm: plan: 11 NotBuilt\n"),
+    ] {
+        let files = files(rt.alloc(), design, plan)?;
+        let told = told(rt.alloc(), &["d.v", "p.json"], files, 0, 0, 4096)?;
+        assert_eq!(rt; told.status, status, "at {line}");
+        assert_eq!(rt; told.out.bytes(), "".as_bytes(), "at {line}");
+        assert_eq!(rt; told.err.bytes(), line.as_bytes(), "at {line}");
+    }
+    Ok(())
+}
+
+#[test]
+fn words_are_two_names(rt: HostRuntime) -> Result<(), Fail> {
+    let words: [&[&str]; 5] = [
+        &[],
+        &["d.v"],
+        &["d.v", "p.json", "p.json"],
+        &["-d", "p.json"],
+        &["d.v", "-"],
+    ];
+    for words in words {
+        let files = files(rt.alloc(), echo(), hi())?;
+        let told = told(rt.alloc(), words, files, 0, 0, 4096)?;
+        assert_eq!(rt; told.status, 2);
+        assert_eq!(rt; told.out.bytes(), "".as_bytes());
+        assert_eq!(rt; told.err.bytes(), "vfarm: words: 1 Refused\n".as_bytes());
+    }
+    Ok(())
+}
+
+#[test]
+fn a_fetch_that_fails_is_named(rt: HostRuntime) -> Result<(), Fail> {
+    // the two words, the call that fails, and the line
+    for (design, plan, fails, line) in [
+        ("d.v", "p.json", 1u64, "vfarm: read: design failed\n"),
+        ("d.v", "p.json", 2, "vfarm: read: plan failed\n"),
+        ("e.v", "p.json", 0, "vfarm: read: design failed\n"),
+        ("d.v", "", 0, "vfarm: read: plan failed\n"),
+    ] {
+        let files = files(rt.alloc(), echo(), hi())?;
+        let told = told(rt.alloc(), &[design, plan], files, fails, 0, 4096)?;
+        assert_eq!(rt; told.status, 6, "at {line}");
+        assert_eq!(rt; told.out.bytes(), "".as_bytes(), "at {line}");
+        assert_eq!(rt; told.err.bytes(), line.as_bytes(), "at {line}");
+    }
+    Ok(())
+}
+
+#[test]
+fn a_design_above_its_limit_is_not_read(rt: HostRuntime) -> Result<(), Fail> {
+    // At the limit the blanks are read, and are no design.
+    for (blanks, status, line) in [
+        (1_048_576usize, 3u8, "vfarm: design: early 1 NotBuilt\n"),
+        (1_048_577, 6, "vfarm: read: design too long 1048577\n"),
+    ] {
+        let mut design = Vec::with_capacity(rt.alloc(), blanks)?;
+        design.resize(blanks, b' ')?;
+        let mut files = Vec::new(rt.alloc());
+        files.push((text(rt.alloc(), "d.v")?, Text::new(design)))?;
+        let told = told(rt.alloc(), &["d.v", "p.json"], files, 0, 0, 4096)?;
+        assert_eq!(rt; told.status, status);
+        assert_eq!(rt; told.out.bytes(), "".as_bytes());
+        assert_eq!(rt; told.err.bytes(), line.as_bytes());
+    }
+    Ok(())
+}
+
+#[test]
+fn a_write_that_fails_ends_the_report(rt: HostRuntime) -> Result<(), Fail> {
+    for (fails, out) in [(1u64, ""), (2, hi_test())] {
+        let files = files(rt.alloc(), echo(), hi())?;
+        let told = told(rt.alloc(), &["d.v", "p.json"], files, 0, fails, 4096)?;
+        assert_eq!(rt; told.status, 7);
+        assert_eq!(rt; told.out.bytes(), out.as_bytes());
+        assert_eq!(rt; told.err.bytes(), "vfarm: write failed\n".as_bytes());
+    }
+    Ok(())
+}
+
+// Runs the empty design with an `err` that has no room.
+fn refused_in_silence(alloc: Global) -> Result<Answered, Memory> {
+    let words = owned(alloc, &["d.v", "p.json"])?;
+    let mut shelf = MemShelf::new(alloc, files(alloc, empty_design(), hi())?, Vec::new(alloc));
+    let mut out = MemSink::new(alloc, 4096, 4096, Vec::new(alloc))?;
+    let mut err = MemSink::new(alloc, 0, 4096, Vec::new(alloc))?;
+    let blank = Blank::new(1);
+    let status = counted::<MemShelf, MemSink, MemSink, Brand>(
+        alloc, &words, &mut shelf, &mut out, &mut err, blank,
+    );
+    Ok(Answered { status, out, err })
+}
+
+#[test]
+fn an_err_that_fails_changes_nothing(rt: HostRuntime) -> Result<(), Fail> {
+    let told = refused_in_silence(rt.alloc())?;
+    assert_eq!(rt; told.status, 3);
+    assert_eq!(rt; told.out.bytes(), "".as_bytes());
+    assert_eq!(rt; told.err.bytes(), "".as_bytes());
+    Ok(())
+}
+
+// Runs the echo where nothing outside can fail.
+fn surely(alloc: Global) -> Result<u8, Memory> {
+    let words = owned(alloc, &["d.v", "p.json"])?;
+    let mut shelf = SureShelf::new(files(alloc, echo(), hi())?);
+    let mut out = SureSink::new();
+    let mut err = SureSink::new();
+    let blank = Blank::new(1);
+    Ok(counted::<SureShelf, SureSink, SureSink, Brand>(
+        alloc, &words, &mut shelf, &mut out, &mut err, blank,
+    ))
+}
+
+#[test]
+fn where_nothing_fails_the_report_is_whole(rt: HostRuntime) -> Result<(), Fail> {
+    assert_eq!(rt; surely(rt.alloc())?, 0);
+    Ok(())
+}
