@@ -1,10 +1,10 @@
 -- A turn that goes on, from what the kernel read and computed.
-use Rattle.std.proofs.Common.{◌≡◌, ℕ, ◌+◌, ◌<◌, Bool, true, false, List, length, Option, Some, None, cond, nat_lt, nat_le, slice_get, refl, sym, ◌∙◌, ap}
+use Rattle.std.proofs.Common.{◌≡◌, ℕ, ◌+◌, ◌<◌, Bool, true, false, List, length, Option, None, cond, nat_lt, nat_le, slice_get, refl, sym, ◌∙◌, ap}
 use Rattle.std.proofs.lemmas.Bool.{lt-leb, false≢true}
 use Rattle.vf_base.specs.declared.run.Header.{Header}
 use Rattle.vf_base.specs.declared.run.Limits.{Limits}
 use Rattle.vf_base.specs.declared.run.SaveKind.{SaveKind}
-use Rattle.vf_machine.specs.Machine.{Move, go, Sight}
+use Rattle.vf_machine.specs.Machine.{go, Sight}
 use Rattle.vf_machine.specs.Run.{Moment, Turned, turn_of, free_turn, performed, sight_at, saved_mark}
 use Rattle.vf_design.specs.Program.{Program}
 use Rattle.vf_design.specs.State.{State}

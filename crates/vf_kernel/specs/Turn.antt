@@ -1,5 +1,5 @@
 -- What a turn of the kernel is.
-use Rattle.std.specs.Prelude.{◌≡◌, ℕ, List}
+use Rattle.std.specs.Prelude.{◌≡◌}
 use Rattle.vf_machine.specs.Run.{Turned}
 use Rattle.vf_machine.specs.Writes.{IsChange}
 use Rattle.vf_design.specs.declared.turn.Turn.{Turn}

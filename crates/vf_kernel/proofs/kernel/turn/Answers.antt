@@ -4,9 +4,8 @@ use Rattle.vf_base.specs.declared.run.Header.{Header}
 use Rattle.vf_machine.specs.Writes.{IsChange}
 use Rattle.vf_design.specs.State.{IsSound}
 use Rattle.vf_machine.proofs.Kept.{stimulus_of_bytes}
-use Rattle.vf_design.specs.Words.{words_of, machine_of}
+use Rattle.vf_design.specs.Words.{words_of}
 use Rattle.vf_design.proofs.Sounds.{turn_sound}
-use Rattle.vf_machine.specs.Run.{turn_of}
 use Rattle.vf_kernel.specs.State.{state_of, move_of, bytes_of}
 use Rattle.vf_kernel.specs.Turn.{IsTurn}
 use Rattle.vf_kernel.proofs.TurnLemmas.{go_turn, not_drained}

@@ -1,7 +1,6 @@
-use Rattle.std.proofs.Common.{◌≡◌, ◌-◌, ◌++◌, [], replicate}
+use Rattle.std.proofs.Common.{◌-◌, replicate}
 use Rattle.vf_design.specs.Program.{word_count}
 use Rattle.vf_design.specs.Words as defined
-use Rattle.vf_kernel.specs.Changes.{change_at}
 use Rattle.vf_kernel.specs.State.{state_of}
 use Rattle.vf_kernel.proofs.ChangeLemmas.{noted_changes}
 use Rattle.vf_kernel.proofs.writes.writes_between.Goals as goal

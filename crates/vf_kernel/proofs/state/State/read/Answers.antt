@@ -1,5 +1,5 @@
-use Rattle.std.proofs.Common.{◌≡◌, ℕ, ◌<◌, List, length, slice_index, ap, sym, ◌∙◌, arith, subst}
-use Rattle.vf_design.specs.Program.{Program, IsWellFormed}
+use Rattle.std.proofs.Common.{ℕ, ◌<◌, List, length, slice_index, ap, arith, subst}
+use Rattle.vf_design.specs.Program.{Program}
 use Rattle.vf_kernel.specs.State.{HoldsState}
 use Rattle.vf_kernel.proofs.state.State.read.Goals as goal
 
