@@ -14,6 +14,7 @@ mod report;
 
 pub use command::command_here;
 pub use plan::{EarlyPlan, OneTest, one_test};
+pub use refusal::{Refusal, What};
 
 #[cfg(test)]
 mod tests;

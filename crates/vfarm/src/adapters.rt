@@ -1,5 +1,5 @@
-//! The real files and outputs. They tell nothing of what they hold, and count their failures: this is
-//! the edge that is trusted and not proved.
+//! The real files and outputs. They tell nothing of what they hold, and count their failures. That the
+//! system did what it answered is trusted.
 
 ghost use Rattle.std.specs.Prelude.{◌≡◌, ◌+◌, ◌^◌, ◌<◌, ◌≤◌, length, OnOk};
 ghost use Rattle.std.specs.Io.{StartsWith};

@@ -10,12 +10,14 @@ ghost use Rattle.std.specs.Prelude.{◌≡◌};
 mod adapters;
 
 use adapters::{FileShelf, OutSink};
+use std::env;
+use std::io::{self, ErrorKind};
 use std::marker::Brand;
 use std::process::ExitCode;
 use std::sync::ledger::{Blank, Ledger};
-use std::{env, io};
 use vf_base::Steps;
-use vf_top::command_here;
+use vf_ports::put_all;
+use vf_top::{Refusal, command_here};
 
 /// Runs the program over a new counter of steps.
 fn counted<L: Ledger>(rt: &HostRuntime, words: &[String], blank: Blank) -> u8
@@ -34,10 +36,27 @@ fn counted<L: Ledger>(rt: &HostRuntime, words: &[String], blank: Blank) -> u8
     )
 }
 
-fn main(rt: HostRuntime) -> io::Result<ExitCode> {
+/// The words of the command line, without the program's name.
+fn words(rt: &HostRuntime) -> io::Result<Vec<String>> {
     let mut words = Vec::new(rt.alloc());
-    for word in env::args(&rt)?.skip(1) {
+    for word in env::args(rt)?.skip(1) {
         words.push(word)?;
     }
-    Ok(ExitCode::from(counted::<Brand>(&rt, &words, Blank::new(1))))
+    Ok(words)
+}
+
+/// Tells a refusal that comes before the top call has its words.
+fn refuse(rt: &HostRuntime, refusal: Refusal) -> u8 {
+    let _ = put_all(&mut OutSink::new(rt.stderr()), refusal.line());
+    refusal.status()
+}
+
+fn main(rt: HostRuntime) -> ExitCode {
+    let status = match words(&rt) {
+        Ok(words) => counted::<Brand>(&rt, &words, Blank::new(1)),
+        Err(error) if error.kind() == ErrorKind::OutOfMemory => refuse(&rt, Refusal::Memory),
+        // a word that is no UTF-8
+        Err(_) => refuse(&rt, Refusal::Words),
+    };
+    ExitCode::from(status)
 }
