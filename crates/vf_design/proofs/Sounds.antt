@@ -1,5 +1,5 @@
 -- Each turn of a well-formed design leads from a sound state to a sound state.
-use Rattle.std.proofs.Common.{◌≡◌, ℕ, ◌+◌, ◌-◌, ◌<◌, ◌≤◌, ◌^◌, Bool, true, false, List, length, Option, Some, None, cond, refl, sym, ◌∙◌, ap, subst, arith, slice_get, IfSome, ⊎_elim}
+use Rattle.std.proofs.Common.{◌≡◌, ℕ, ◌+◌, ◌-◌, ◌<◌, ◌^◌, Bool, true, false, List, length, Option, Some, None, cond, refl, sym, ◌∙◌, ap, subst, arith, slice_get, IfSome, ⊎_elim}
 use Rattle.std.proofs.lemmas.Bool.{cases_lt, false≢true}
 use Rattle.std.proofs.lemmas.Option.{slice_get_within}
 use Rattle.vf_base.specs.declared.run.Limits.{Limits}

@@ -1,7 +1,7 @@
 -- A design as contracts see it. These are the early designs: one process over one integer.
-use Rattle.std.specs.Prelude.{◌≡◌, ℕ, ◌+◌, ◌-◌, ◌*◌, ◌/◌, ◌<◌, ◌≤◌, Bool, true, false, List, [], ◌∷◌, length, Option, Some, None, slice_get, IfSome}
+use Rattle.std.specs.Prelude.{◌≡◌, ℕ, ◌+◌, ◌-◌, ◌*◌, ◌/◌, ◌<◌, ◌≤◌, Bool, true, false, List, length, slice_get, IfSome}
 use Rattle.vf_design.specs.declared.code.Instr.{Instr}
-use Rattle.vf_design.specs.declared.code.Instr.TheVariants.{Getc, Jump, Unless, Show, Save, IncSave, Finish, Halt}
+use Rattle.vf_design.specs.declared.code.Instr.TheVariants.{Jump, Unless, Halt}
 
 -- the top module's name, the integer's name, the code of the process, and how many event slots a state has
 pub record Program : Type 0 where

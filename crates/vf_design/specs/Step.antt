@@ -1,13 +1,11 @@
 -- One turn of an early design, and the design as a machine.
 use Rattle.std.specs.Prelude.{ℕ, ◌+◌, ◌-◌, ◌%◌, ◌^◌, Bool, true, false, not, ◌==◌, List, [], ◌∷◌, Option, Some, None, slice_get, if◌then◌else◌}
-use Rattle.vf_base.specs.declared.run.SaveKind.{SaveKind}
 use Rattle.vf_base.specs.declared.run.SaveKind.TheVariants.{Full, Incr}
-use Rattle.vf_base.specs.declared.run.Ending as ending
 use Rattle.vf_base.specs.declared.run.Ending.TheVariants as endings
 use Rattle.vf_design.specs.declared.code.Instr.{Instr}
 use Rattle.vf_design.specs.declared.code.Instr.TheVariants.{Getc, Jump, Unless, Show, Save, IncSave, Finish, Halt}
 use Rattle.vf_design.specs.declared.code.Condition.{Condition}
-use Rattle.vf_machine.specs.Machine.{Machine, Move, go, stop, Sight}
+use Rattle.vf_machine.specs.Machine.{Move, go, stop, Sight}
 use Rattle.vf_design.specs.Program.{Program}
 use Rattle.vf_design.specs.State.{State, Status, halted, active, running}
 

@@ -1,6 +1,6 @@
 -- How far a lone run has come.
-use Rattle.std.proofs.Common.{◌≡◌, ℕ, zero, suc, ◌+◌, ◌-◌, ◌*◌, ◌/◌, ◌<◌, ◌≤◌, ◌^◌, Bool, true, false, ◌||◌, ◌==◌, cond, List, [], ◌∷◌, ◌++◌, length, take, get_or, set, replicate, nat_lt, slice_set, refl, sym, ◌∙◌, ap, ap₂, subst, arith, ⊎_elim}
-use Rattle.std.proofs.lemmas.Bool.{false≢true, cases_lt, eqb-true, eqb-false, le-ltb}
+use Rattle.std.proofs.Common.{◌≡◌, ℕ, suc, ◌+◌, ◌-◌, ◌*◌, ◌/◌, ◌<◌, ◌≤◌, Bool, true, false, ◌||◌, ◌==◌, List, [], ◌∷◌, ◌++◌, length, replicate, nat_lt, slice_set, refl, sym, ◌∙◌, ap, ap₂, subst, arith, ⊎_elim}
+use Rattle.std.proofs.lemmas.Bool.{cases_lt, eqb-true, eqb-false, le-ltb}
 use Rattle.std.proofs.lemmas.List.{get_or-set_same, get_or-set_other, length-set, length-replicate, get_or-replicate}
 use Rattle.vf_base.specs.declared.run.Header.{Header}
 use Rattle.vf_base.specs.declared.run.Limits.{Limits}
@@ -8,7 +8,6 @@ use Rattle.vf_base.specs.declared.run.Ending.{Ending}
 use Rattle.vf_machine.specs.declared.mark.Mark.{Mark}
 use Rattle.vf_machine.specs.declared.mark.Mark.TheVariants as marks
 use Rattle.vf_machine.specs.Search.{count_below}
-use Rattle.vf_machine.specs.Machine.{Machine}
 use Rattle.vf_machine.specs.Run.{moment_at, text_at, turn_at, turn_of, mark_at, is_ending, words_at}
 use Rattle.vf_machine.specs.Pages.{is_touched, pages_touched, page_differs}
 use Rattle.vf_machine.specs.Pages as machine_pages

@@ -10,3 +10,6 @@ mod lone;
 mod touched;
 
 pub use lone::solo;
+
+#[cfg(test)]
+mod tests;

@@ -1,5 +1,5 @@
 -- What the status is for what is given: each other answer contradicts it.
-use Rattle.std.proofs.Common.{◌≡◌, ℕ, ◌<◌, ◌≤◌, List, length, Option, Some, None, Ok, Err, refl, sym, ◌∙◌, ap, subst, arith, inl, inr}
+use Rattle.std.proofs.Common.{◌≡◌, ℕ, ◌<◌, ◌≤◌, List, length, Ok, Err, refl, sym, ◌∙◌, ap, subst, arith, inl, inr}
 use Rattle.vf_design.specs.Program.{Program}
 use Rattle.vf_early.specs.Early.{IsEarly}
 use Rattle.vf_top.specs.declared.plan.OneTest.{OneTest}

@@ -1,18 +1,12 @@
 -- The causes, the other way round: the answer leaves no other status.
-use Rattle.std.proofs.Common.{◌≡◌, ℕ, ◌<◌, ◌≤◌, List, length, Option, Some, None, Ok, Err, refl, sym, ◌∙◌, ap, subst, arith, inl, inr}
-use Rattle.vf_ports.specs.Counts.{Rose}
-use Rattle.vf_ports.specs.Shelf.{Told, untold, missing, file, IsFile}
-use Rattle.vf_design.specs.Program.{Program}
-use Rattle.vf_early.specs.Early.{IsEarly}
-use Rattle.vf_top.specs.declared.plan.OneTest.{OneTest}
-use Rattle.vf_top.specs.declared.plan.EarlyPlan.{EarlyPlan}
+use Rattle.std.proofs.Common.{◌≡◌, ℕ, ◌<◌, List, length, Some, None, refl, sym, ◌∙◌, ap, subst, arith}
+use Rattle.vf_ports.specs.Shelf.{Told, IsFile}
 use Rattle.vf_top.specs.declared.refusal.What.TheVariants.{Design, Plan}
 use Rattle.vf_top.specs.declared.refusal.Refusal.{Refusal}
 use Rattle.vf_top.specs.declared.refusal.Refusal.TheVariants.{Words, Failed, TooLong, DesignNotBuilt, PlanNotJson, PlanNotBuilt, Write, Memory}
 use Rattle.vf_top.specs.Words.{files_of}
-use Rattle.vf_top.specs.Plan.{plan_of}
-use Rattle.vf_top.specs.Fault.{status_of, limit_of}
-use Rattle.vf_top.specs.Answer.{Files, World, Output, IsInput, IsLong, HasDesign, HasPlanFile, IsAccepted, Answers, reported, refused, Cause, IsGiven, NoFault, IsUnlessMemory, WordsExact, LongDesign, WrongDesign, LongPlan, WrongPlan, Complete}
+use Rattle.vf_top.specs.Fault.{status_of}
+use Rattle.vf_top.specs.Answer.{Files, World, IsInput, IsLong, Answers, reported, refused, Cause, IsGiven, WordsExact}
 
 pub unnamed : (words : List (List ℕ)) (names : List ℕ × List ℕ) → files_of words ≡ None → files_of words ≡ Some names → ⊥
 unnamed words names none named = let e = sym none ∙ named in cc

@@ -1,8 +1,8 @@
 -- What `serde_json` says of a value, in the words of a plan.
-use Rattle.std.proofs.Common.{◌≡◌, ◌==◌, ℕ, suc, Bool, true, false, List, [], ◌∷◌, length, Option, Some, None, String, Global, ◌<◌, arith, refl, sym, ap, ◌∙◌, IsUtf8, if◌then◌else◌}
+use Rattle.std.proofs.Common.{◌≡◌, ◌==◌, ℕ, suc, true, false, List, [], ◌∷◌, length, Some, None, String, Global, ◌<◌, arith, refl, ap, sym, ◌∙◌, IsUtf8, if◌then◌else◌}
 use Rattle.std.proofs.lemmas.Str.{is_utf8-from_IsUtf8, IsUtf8-from_is_utf8}
 use Rattle.std.specs.Str.{is_utf8}
-use Rattle.serde_json.specs.Data.{Data, null, boolean, number, string, array, object, Members}
+use Rattle.serde_json.specs.Data.{Data, null, boolean, number, string, array, object}
 use Rattle.serde_json.specs.Events.{members_len}
 use Rattle.serde_json.specs.Find.{as_object}
 use Rattle.serde_json.specs.Read.{read}
@@ -14,13 +14,15 @@ pub members_len-members_view : (es : List (String Global × Value)) → members_
 members_len-members_view [] = refl
 members_len-members_view (e ∷ es) = ap suc (members_len-members_view es)
 
-pub has_members-object : (count : ℕ) (value : Data) (ms : Members) → Some ms ≡ as_object value → has_members count value ≡ (members_len ms == count)
-has_members-object count null ms h = cc
-has_members-object count (boolean b) ms h = cc
-has_members-object count (number n) ms h = cc
-has_members-object count (string s) ms h = cc
-has_members-object count (array ds) ms h = cc
-has_members-object count (object found) ms h = cc
+pub members_counted : (count : ℕ) (value : Data) (es : List (String Global × Value)) → Some (members_view es) ≡ as_object value → has_members count value ≡ (length es == count)
+members_counted count null es h = cc
+members_counted count (boolean b) es h = cc
+members_counted count (number n) es h = cc
+members_counted count (string s) es h = cc
+members_counted count (array ds) es h = cc
+members_counted count (object ms) es h =
+    let same : members_view es ≡ ms = cc in
+    ap (λ found. members_len found == count) (sym same) ∙ ap (λ n. n == count) (members_len-members_view es)
 
 pub read_bytes-read : (bytes : List ℕ) (value : Data) → IsUtf8 bytes → read bytes ≡ Some value → read_bytes bytes ≡ Some value
 unfolding read_bytes

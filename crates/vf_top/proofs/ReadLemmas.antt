@@ -1,6 +1,6 @@
 -- Refusals of the design and the plan as causes of the command's.
 use Rattle.std.proofs.Common.{◌≡◌, ℕ, List, Some, Err}
-use Rattle.vf_top.specs.declared.refusal.What.TheVariants.{Design, Plan}
+use Rattle.vf_top.specs.declared.refusal.What.TheVariants.{Design}
 use Rattle.vf_top.specs.declared.refusal.Refusal.{Refusal}
 use Rattle.vf_top.specs.declared.refusal.Refusal.TheVariants.{Words, Failed, TooLong, DesignNotBuilt, PlanNotJson, PlanNotBuilt, Write, Memory}
 use Rattle.vf_top.specs.Words.{files_of}

@@ -2,7 +2,7 @@
 use Rattle.std.proofs.Common.{◌≡◌, ℕ, List, Result, Ok, Err, inl, inr}
 use Rattle.std.specs.Prelude.{OnOk, OnErr}
 use Rattle.vf_ports.specs.Counts.{Rose}
-use Rattle.vf_ports.specs.Sink.{Appends, AppendsPart, AppendsPrefix}
+use Rattle.vf_ports.specs.Sink.{Appends, AppendsPart}
 use Rattle.vf_top.specs.Answer.{Output, Says}
 
 -- a line that was put out, or a part of it

@@ -1,5 +1,5 @@
 -- What a command does, and why (docs/FARM.md, "The top call").
-use Rattle.std.specs.Prelude.{◌≡◌, ℕ, ◌+◌, ◌^◌, ◌<◌, ◌≤◌, ◌⊎◌, ◌↔◌, ⊤, List, length, Option, Some, None, Result, Ok, Err}
+use Rattle.std.specs.Prelude.{◌≡◌, ℕ, ◌+◌, ◌<◌, ◌≤◌, ◌⊎◌, ◌↔◌, ⊤, List, length, Option, Some, None, Ok, Err}
 use Rattle.vf_ports.specs.Counts.{Rose}
 use Rattle.vf_ports.specs.Shelf.{Told, untold, missing, file, IsFile, GainsName}
 use Rattle.vf_ports.specs.Sink.{Appends, AppendsPrefix}

@@ -3,7 +3,7 @@ use Rattle.std.specs.Prelude.{◌≡◌, ℕ, Bool, true, false, ◌==◌, ◌&&
 use Rattle.std.specs.Char.{is_ascii_alphabetic, is_ascii_alphanumeric}
 use Rattle.std.specs.List.{list_all}
 use Rattle.std.specs.Str.{byte, is_utf8}
-use Rattle.serde_json.specs.Data.{Data, array, object, Items, no_items, item}
+use Rattle.serde_json.specs.Data.{Data, object, Items, no_items, item}
 use Rattle.serde_json.specs.Events.{members_len}
 use Rattle.serde_json.specs.Find.{get, as_array, as_bool, as_number, as_str, as_u64}
 use Rattle.serde_json.specs.Read.{read}
@@ -63,6 +63,7 @@ one_test_of plan = if has_members 2 plan then test_in (whole_at (codes "version"
 unfoldable pub read_bytes : List ℕ → Option Data
 read_bytes bytes = if is_utf8 bytes then read bytes else None
 
+-- what the value of a plan file is, if one was read
 abbrev pub plan_in : Option Data → Result OneTest EarlyPlan
 plan_in None = Err NotJson
 plan_in (Some value) = ok_or (one_test_of value) NotBuilt

@@ -1,7 +1,6 @@
 -- What the parts of a command answer.
-use Rattle.std.specs.Prelude.{◌≡◌, ℕ, ◌+◌, ◌≤◌, ⊤, List, length, Option, Result, Ok, Err}
+use Rattle.std.specs.Prelude.{◌≡◌, ℕ, ⊤, List, Result, Ok, Err}
 use Rattle.vf_ports.specs.Counts.{Rose}
-use Rattle.vf_ports.specs.Shelf.{IsFile, GainsName}
 use Rattle.vf_design.specs.Program.{Program}
 use Rattle.vf_top.specs.declared.plan.OneTest.{OneTest}
 use Rattle.vf_top.specs.declared.refusal.What.{What}

@@ -70,6 +70,7 @@ fn is_name(name: &[u8]) -> bool
 }
 
 /// Whether a value is an object of so many members.
+#[tactic(auto, using(crate::proofs::PlanLemmas::members_counted))]
 fn has_members(value: &Value, count: usize) -> bool
     ensures { result ≡ has_members count (view value.now) }
 {
@@ -98,14 +99,16 @@ fn whole_at(value: &Value, key: &str) -> Option<u64>
 }
 
 fn list_at<'a>(value: &'a Value, key: &str) -> Option<&'a Vec<Value>>
-    ensures { option_map (λ list. items_view list.now.items) result ≡ list_at key.now (view value.now) }
+    ensures { option_map (λ list. items_view list.now.items) result
+        ≡ list_at key.now (view value.now) }
 {
     value.get(key)?.as_array()
 }
 
 /// The name and the stimulus of a node that is a test.
 fn test_of(node: &Value) -> Option<(&str, &str)>
-    ensures { option_map (λ test. record { name = test.0.now; text = test.1.now }) result ≡ test_of (view node.now) }
+    ensures { option_map (λ test. record { name = test.0.now; text = test.1.now }) result
+        ≡ test_of (view node.now) }
 {
     if !has_members(node, 3) {
         return None;
@@ -122,7 +125,8 @@ fn test_of(node: &Value) -> Option<(&str, &str)>
 /// The name and the stimulus of the test that is a list's only node.
 #[tactic(auto, using(crate::proofs::PlanLemmas::more_than_one_node))]
 fn only_test(nodes: &[Value]) -> Option<(&str, &str)>
-    ensures { option_map (λ test. record { name = test.0.now; text = test.1.now }) result ≡ test_in (Some 1) (Some (items_view nodes.now)) }
+    ensures { option_map (λ test. record { name = test.0.now; text = test.1.now }) result
+        ≡ test_in (Some 1) (Some (items_view nodes.now)) }
 {
     match nodes {
         [] => None,
@@ -134,7 +138,8 @@ fn only_test(nodes: &[Value]) -> Option<(&str, &str)>
 /// The name and the stimulus of the only test of a plan.
 #[tactic(auto, unfolding(crate::specs::Plan::one_test_of))]
 fn one_test_of(plan: &Value) -> Option<(&str, &str)>
-    ensures { option_map (λ test. record { name = test.0.now; text = test.1.now }) result ≡ one_test_of (view plan.now) }
+    ensures { option_map (λ test. record { name = test.0.now; text = test.1.now }) result
+        ≡ one_test_of (view plan.now) }
 {
     if !has_members(plan, 2) || whole_at(plan, "version")? != 1 {
         return None;

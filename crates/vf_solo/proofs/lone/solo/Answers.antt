@@ -1,18 +1,17 @@
-use Rattle.std.proofs.Common.{◌≡◌, ℕ, suc, ◌+◌, ◌*◌, ◌/◌, ◌<◌, ◌≤◌, Bool, true, false, List, [], ◌++◌, length, replicate, nat_lt, vec_len, refl, sym, ◌∙◌, ap, subst, arith, rules}
+use Rattle.std.proofs.Common.{◌≡◌, ℕ, suc, ◌*◌, ◌/◌, Bool, true, false, List, ◌++◌, length, replicate, nat_lt, vec_len, refl, sym, ◌∙◌, ap, subst, arith}
 use Rattle.std.proofs.lemmas.Bool.{le-ltb, lt-ltb}
 use Rattle.vf_base.specs.declared.run.Outcome.TheVariants.{Done, Pages}
-use Rattle.vf_machine.specs.declared.mark.Mark.TheVariants.{Ended}
-use Rattle.vf_machine.specs.Run.{moment_at, mark_at, turn_at, turn_of, is_ending}
+use Rattle.vf_machine.specs.Run.{moment_at, mark_at, is_ending}
 use Rattle.vf_machine.specs.Writes.{written}
-use Rattle.vf_machine.specs.Alone.{ending_of, turns_alone}
+use Rattle.vf_machine.specs.Alone.{ending_of}
 use Rattle.vf_machine.specs.Pages.{pages_touched}
 use Rattle.vf_machine.proofs.Searches.{none_below_more}
 use Rattle.vf_machine.proofs.Ends.{counts_once, before_limit}
 use Rattle.vf_machine.proofs.AloneLemmas.{alone_ended, alone_passed}
-use Rattle.vf_design.specs.Program.{word_count, page_count}
+use Rattle.vf_design.specs.Program.{page_count}
 use Rattle.vf_design.specs.Words.{machine_of}
 use Rattle.vf_solo.specs.Flags.{flags_set, marked}
-use Rattle.vf_solo.proofs.Progress.{IsRunning, NextTurn, running_at_zero, next_turn, next_flags, advance, inside_pages, length-words, not_ended}
+use Rattle.vf_solo.proofs.Progress.{IsRunning, running_at_zero, next_turn, next_flags, advance, inside_pages, length-words, not_ended}
 use Rattle.vf_solo.proofs.lone.solo.Goals as goal
 use Rattle.vf_solo.proofs.lone.solo.Goals.{then-next-header, else-next-header}
 

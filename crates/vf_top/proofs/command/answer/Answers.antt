@@ -1,9 +1,5 @@
-use Rattle.std.proofs.Common.{◌≡◌, ℕ, List, Result, map, refl, subst}
-use Rattle.std.specs.Prelude.{OnOk, OnErr}
-use Rattle.std.specs.String.{string_bytes}
-use Rattle.vf_ports.specs.Sink.{Appends, AppendsPart}
-use Rattle.vf_top.specs.Fault.{fault_text}
-use Rattle.vf_top.specs.Answer.{Output, Says, Answers, reported, refused}
+use Rattle.std.proofs.Common.{refl, subst}
+use Rattle.vf_top.specs.Answer.{Output, Says, reported, refused}
 use Rattle.vf_top.proofs.SayLemmas.{says_by}
 use Rattle.vf_top.proofs.command.answer.Goals as goal
 

@@ -1,6 +1,6 @@
-use Rattle.std.proofs.Common.{◌≡◌, ◌++◌, map}
+use Rattle.std.proofs.Common.{◌++◌, map}
 use Rattle.std.specs.String.{string_bytes}
-use Rattle.vf_top.specs.Answer.{World, Output}
+use Rattle.vf_top.specs.Answer.{World}
 use Rattle.vf_top.proofs.WriteLemmas.{ran_by_write}
 use Rattle.vf_top.proofs.command.run.Goals as goal
 

@@ -1,5 +1,5 @@
-use Rattle.std.proofs.Common.{◌≡◌, ℕ, List, ◌++◌, arith, subst}
-use Rattle.vf_ports.specs.Sink.{Appends, AppendsPart, AppendsPrefix}
+use Rattle.std.proofs.Common.{ℕ, List, arith, subst}
+use Rattle.vf_ports.specs.Sink.{Appends, AppendsPart}
 use Rattle.vf_top.proofs.WriteLemmas.{appends_then_part}
 use Rattle.vf_top.proofs.command.write.Goals as goal
 

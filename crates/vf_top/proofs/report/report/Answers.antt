@@ -1,4 +1,4 @@
-use Rattle.std.proofs.Common.{◌≡◌, [], ◌∷◌, ◌++◌, Some, None, ◌∙◌, ap, ap₂}
+use Rattle.std.proofs.Common.{[], ◌∷◌, ◌++◌, Some, None, ◌∙◌, ap, ap₂}
 use Rattle.vf_base.specs.declared.run.Outcome.{Outcome}
 use Rattle.vf_machine.specs.Alone.{alone}
 use Rattle.vf_design.specs.Words.{machine_of}

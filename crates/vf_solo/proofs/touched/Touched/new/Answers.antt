@@ -1,4 +1,4 @@
-use Rattle.std.proofs.Common.{◌≡◌, ℕ, Bool, false, length, replicate, sym, ◌∙◌, ap, arith}
+use Rattle.std.proofs.Common.{false, length, sym, ◌∙◌, ap, arith}
 use Rattle.std.proofs.lemmas.List.{length-replicate}
 use Rattle.vf_solo.specs.Flags.{flags_set}
 use Rattle.vf_solo.proofs.FlagLemmas.{flags_set-none}

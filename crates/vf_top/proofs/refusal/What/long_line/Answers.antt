@@ -1,4 +1,4 @@
-use Rattle.std.proofs.Common.{◌≡◌, sym, ap}
+use Rattle.std.proofs.Common.{sym, ap}
 use Rattle.std.specs.Fmt.{digits}
 use Rattle.vf_top.specs.declared.refusal.Refusal.TheVariants.{TooLong}
 use Rattle.vf_top.specs.Fault.{fault_text}
