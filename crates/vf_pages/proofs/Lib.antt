@@ -1,0 +1,15 @@
+pub mod Entries
+pub mod Puts
+pub mod Words
+pub mod Groups
+pub mod Notes
+pub mod Frames
+pub mod Steps
+pub mod Progress
+pub mod Goes
+pub mod Lookups
+pub mod InPlaces
+pub mod Counting
+pub mod Results
+pub mod Changes
+pub mod Shuffles

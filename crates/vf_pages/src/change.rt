@@ -1,0 +1,105 @@
+ghost use Rattle.std.specs.Prelude.{◌≡◌, ℕ, ◌+◌, ◌≤◌, [], ◌∷◌, List, length, vec_len, vec_capacity, map, IfErr, OnOk, OnErr};
+ghost use Rattle.std.specs.Arc.{arc_value};
+ghost use Rattle.vf_frames.specs.declared.holder.Holder.{Holder};
+ghost use Rattle.vf_frames.specs.Holders.{Accounts, Keeps, SamePool};
+ghost use Rattle.vf_pages.specs.Pages.{IsSorted, IsHeld};
+ghost use Rattle.vf_pages.specs.Views.{pages_of, shown};
+ghost use Rattle.vf_pages.specs.Writes.{AreWrites, written_pages};
+ghost use Rattle.vf_pages.specs.Needs.{new_pages};
+ghost use Rattle.vf_pages.specs.InPlace.{in_place};
+ghost use Rattle.vf_pages.specs.Gathered.{OnLack};
+ghost use Rattle.vf_pages.specs.Calls.{Wrote, WroteAmong, IsShort, ShortAmong, OnRefusal, IsUnmade};
+
+use crate::gather::{Lack, gather, give_up};
+use crate::held::Held;
+use crate::install::{install, write_in_place};
+use crate::refusal::PageRefusal;
+use crate::search::count_new;
+use std::sync::Arc;
+use vf_base::Memory;
+use vf_frames::Frames;
+
+// The refusal that a lack makes.
+fn refusal_of(lack: Lack, held: &[Held], writes: &[(u32, u64)], words: usize) -> PageRefusal
+    requires sorted { IsSorted (pages_of held.now) }
+    requires writes { AreWrites words writes.now }
+    ensures { OnLack lack
+        (result ≡ PageRefusal.Short (length held.now + new_pages (pages_of held.now) (written_pages writes.now)))
+        (result ≡ PageRefusal.Memory) }
+{
+    match lack {
+        Lack::Frame => PageRefusal::Short((held.len() + count_new(held, writes, words)) as u32),
+        Lack::Memory => PageRefusal::Memory,
+    }
+}
+
+// Takes the room for fresh pages and writes those that have none.
+fn prepare(
+    held: &mut Vec<Held>,
+    fresh: &Vec<Held>,
+    writes: &[(u32, u64)],
+    words: usize,
+) -> Result<(), Memory>
+    requires sorted { IsSorted (pages_of held.old.items) }
+    requires fresh { IsSorted (pages_of fresh.now.items) }
+    requires writes { AreWrites words writes.now }
+    ensures ok { OnOk result (pages_of held.new.items
+        ≡ map (in_place writes.now (pages_of fresh.now.items)) (pages_of held.old.items)) }
+    ensures room { OnOk result (vec_len held.new + vec_len fresh.now ≤ vec_capacity held.new) }
+    ensures err { OnErr result (pages_of held.new.items ≡ pages_of held.old.items) }
+{
+    held.reserve(fresh.len())?;
+    let alloc = *held.allocator();
+    write_in_place(alloc, held, fresh, writes, words)
+}
+
+/// Writes words over the pages of one holder.
+pub(crate) fn change<F: Frames>(
+    zero: &Arc<Vec<u64>>,
+    held: &mut Vec<Held>,
+    pool: &mut F,
+    token: &mut F::Token,
+    writes: &[(u32, u64)],
+) -> Result<(), PageRefusal>
+    requires name { (F.seen token.old).name ≡ F.name pool.old }
+    requires sorted { IsSorted (pages_of held.old.items) }
+    requires held { IsHeld (pages_of held.old.items) (F.seen token.old).frames }
+    requires writes { AreWrites (length (arc_value zero.now).items) writes.now }
+    ensures ok { OnOk result (Wrote writes.now
+        (shown (arc_value zero.now).items held.old.items (F.seen token.old))
+        (shown (arc_value zero.now).items held.new.items (F.seen token.new))) }
+    ensures ok_among { OnOk result ((others : List Holder) → Accounts (F.numbers pool.old) (F.seen token.old ∷ others)
+        → WroteAmong writes.now
+        (shown (arc_value zero.now).items held.old.items (F.seen token.old))
+        (shown (arc_value zero.now).items held.new.items (F.seen token.new)) others) }
+    ensures err { OnErr result (pages_of held.new.items ≡ pages_of held.old.items) }
+    ensures refused { IfErr result (λ refusal. OnRefusal refusal
+        (λ k. IsShort k writes.now
+        (shown (arc_value zero.now).items held.old.items (F.seen token.old))
+        (shown (arc_value zero.now).items held.new.items (F.seen token.new)))
+        (IsUnmade
+        (shown (arc_value zero.now).items held.old.items (F.seen token.old))
+        (shown (arc_value zero.now).items held.new.items (F.seen token.new)))) }
+    ensures refused_among { IfErr result (λ refusal. (others : List Holder)
+        → Accounts (F.numbers pool.old) (F.seen token.old ∷ others)
+        → OnRefusal refusal
+        (λ k. ShortAmong k writes.now (shown (arc_value zero.now).items held.old.items (F.seen token.old)) others)
+        (Unit {0})) }
+    ensures sorted { IsSorted (pages_of held.new.items) }
+    ensures held { IsHeld (pages_of held.new.items) (F.seen token.new).frames }
+    ensures kept { Keeps (F.numbers pool.old) (F.seen token.old ∷ []) (F.numbers pool.new) (F.seen token.new ∷ []) }
+    ensures pool { SamePool (F.name pool.old) (F.numbers pool.old) (F.name pool.new) (F.numbers pool.new) }
+{
+    let zero = zero.as_slice();
+    let mut fresh = Vec::new(*held.allocator());
+    if let Err(lack) = gather(zero, held, pool, token, writes, &mut fresh) {
+        give_up(pool, token, fresh);
+        return Err(refusal_of(lack, held, writes, zero.len()));
+    }
+    let Ok(()) = prepare(held, &fresh, writes, zero.len()) else {
+        give_up(pool, token, fresh);
+        return Err(PageRefusal::Memory);
+    };
+    install(pool, token, held, fresh);
+    Ok(())
+}

@@ -1,0 +1,73 @@
+ghost use Rattle.std.specs.Prelude.{◌≡◌, ◌<◌, length, IfOk};
+ghost use Rattle.std.specs.Arc.{arc_value};
+
+use crate::{PageRefusal, Paged};
+use std::alloc::Global;
+use std::sync::Arc;
+use std::test::Fail;
+use vf_base::Memory;
+use vf_frames::{Frames, PlainPool};
+
+// So many words, all 0 at time zero.
+fn zeros(alloc: Global, count: usize) -> Result<Arc<Vec<u64>>, Memory>
+    ensures { IfOk result (λ zero. length (arc_value zero).items ≡ count) }
+{
+    Ok(Arc::new(alloc, vec![in alloc; 0u64; count]?)?)
+}
+
+// A fork shares words until either holder writes, and neither sees what the other writes.
+#[test]
+fn a_write_after_a_fork_is_seen_by_its_holder_alone(rt: HostRuntime) -> Result<(), Fail> {
+    let alloc = rt.alloc();
+    let (mut pool, mut hand) = PlainPool::new(alloc, 8)?;
+    let mut first = Paged::at_zero(alloc, &mut pool, &mut hand, zeros(alloc, 256)?)?;
+    first.write_all(&mut pool, &[(3, 30), (70, 700)])?;
+    let mut second = first.fork(&mut pool, &mut hand)?;
+    assert_eq!(rt;
+        (second.read(3), second.read(70), second.pages()),
+        (30, 700, 2)
+    );
+
+    first.write_all(&mut pool, &[(3, 31)])?;
+    second.write_all(&mut pool, &[(70, 701), (130, 9)])?;
+    assert_eq!(rt;
+        (first.read(3), first.read(70), first.read(130)),
+        (31, 700, 0)
+    );
+    assert_eq!(rt;
+        (second.read(3), second.read(70), second.read(130)),
+        (30, 701, 9)
+    );
+    assert_eq!(rt; (first.pages(), second.pages()), (2, 3));
+
+    first.give_back(&mut pool, &mut hand);
+    second.write_all(&mut pool, &[(3, 32), (4, 4)])?;
+    assert_eq!(rt; (second.read(3), second.read(4)), (32, 4));
+    second.give_back(&mut pool, &mut hand);
+    Ok(())
+}
+
+// Four pages do not fit while another holder has one of four frames, and fit once it is released.
+#[test]
+fn short_says_how_many_pages_there_would_be(rt: HostRuntime) -> Result<(), Fail> {
+    let alloc = rt.alloc();
+    let (mut pool, mut hand) = PlainPool::new(alloc, 4)?;
+    let taken = pool.claim(&mut hand).ok_or("a free frame")?;
+    let mut paged = Paged::at_zero(alloc, &mut pool, &mut hand, zeros(alloc, 256)?)?;
+    let writes = [(0, 1), (1, 2), (64, 3), (128, 4), (192, 5)];
+    assert_eq!(rt;
+        paged.write_all(&mut pool, &writes),
+        Err(PageRefusal::Short(4))
+    );
+    assert_eq!(rt;
+        (paged.pages(), paged.read(64), paged.misses(&pool)),
+        (0, 0, 1)
+    );
+
+    pool.release(&mut hand, taken);
+    paged.write_all(&mut pool, &writes)?;
+    assert_eq!(rt; (paged.pages(), paged.read(1), paged.read(192)), (4, 2, 5));
+    paged.give_back(&mut pool, &mut hand);
+    assert_eq!(rt; pool.misses(&hand), 1);
+    Ok(())
+}
