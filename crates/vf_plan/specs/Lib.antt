@@ -1,0 +1,14 @@
+pub mod Paths
+pub mod Form
+pub mod Seen
+pub mod Answers
+pub mod Reading
+pub mod Rules
+pub mod Inner
+pub mod Subtree
+pub mod Limits
+pub mod Tables
+pub mod Jobs
+pub mod Kinds
+pub mod Setup
+pub mod SetupInner

@@ -1,0 +1,29 @@
+-- What a farm's runs are given.
+use Rattle.std.specs.Prelude.{◌≡◌, ℕ, ◌≤◌, List}
+use Rattle.vf_base.specs.declared.run.Limits.{Limits}
+use Rattle.vf_design.specs.Program.{Program}
+use Rattle.vf_design.specs.Step.{start}
+use Rattle.vf_design.specs.Words.{words_of}
+use Rattle.vf_plan.specs.declared.plan.Node.{Node}
+use Rattle.vf_plan.specs.declared.setup.Order.{Order}
+use Rattle.vf_plan.specs.Rules.{IsPlan}
+
+pub record Conditions : Type 0 where
+  pub design : Program
+  pub plan : List Node
+  pub limits : Limits
+  pub budget : ℕ
+  pub order : Order
+  pub zero : List ℕ
+
+pub record IsInRange (limits : Limits) : Type 0 where
+  pub turns : (1 ≤ limits.turns) × (limits.turns ≤ 4294967296)
+  pub output : limits.output ≤ 262144
+  pub slots : (1 ≤ limits.slots) × (limits.slots ≤ 16384)
+
+-- the plan keeps its rules, `zero` is the words at time zero, and limits and budget are in their ranges
+pub record IsSetup (s : Conditions) : Type 0 where
+  pub plan : IsPlan s.plan
+  pub zero : s.zero ≡ words_of s.design start
+  pub limits : IsInRange s.limits
+  pub budget : (1 ≤ s.budget) × (s.budget ≤ 1048576)
