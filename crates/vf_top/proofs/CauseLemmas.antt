@@ -1,15 +1,16 @@
 -- What the status is for what is given: each other answer contradicts it.
-use Rattle.std.proofs.Common.{◌≡◌, ℕ, ◌<◌, ◌≤◌, List, length, Ok, Err, refl, sym, ◌∙◌, ap, subst, arith, inl, inr}
+use Rattle.std.proofs.Common.{◌≡◌, ℕ, ◌<◌, ◌≤◌, List, [], ◌∷◌, length, Result, Ok, Err, refl, sym, ◌∙◌, ap, subst, arith, inl, inr}
 use Rattle.vf_design.specs.Program.{Program}
 use Rattle.vf_early.specs.Early.{IsEarly}
-use Rattle.vf_top.specs.declared.plan.OneTest.{OneTest}
-use Rattle.vf_top.specs.declared.plan.EarlyPlan.{EarlyPlan}
+use Rattle.vf_plan.specs.declared.fault.PlanFault.{PlanFault}
+use Rattle.vf_plan.specs.declared.plan.Node.{Node}
+use Rattle.vf_plan.specs.Reading.{plan_of}
 use Rattle.vf_top.specs.declared.refusal.What.TheVariants.{Design, Plan}
 use Rattle.vf_top.specs.declared.refusal.Refusal.{Refusal}
-use Rattle.vf_top.specs.declared.refusal.Refusal.TheVariants.{Words, Failed, TooLong, DesignNotBuilt, PlanNotJson, PlanNotBuilt, Write, Memory}
-use Rattle.vf_top.specs.Plan.{plan_of}
+use Rattle.vf_top.specs.declared.refusal.Refusal.TheVariants.{Words, Failed, TooLong, DesignNotBuilt, WrongPlan, PlanNotBuilt, Write, Memory}
 use Rattle.vf_top.specs.Fault.{status_of, limit_of}
-use Rattle.vf_top.specs.Answer.{Files, World, HasDesign, IsAccepted, Answers, reported, refused, Cause, IsGiven, NoFault, IsUnlessMemory, LongDesign, WrongDesign, LongPlan, WrongPlan, Complete}
+use Rattle.vf_top.specs.Report.{report_status}
+use Rattle.vf_top.specs.Answer.{Files, World, HasDesign, IsAccepted, Answers, reported, refused, Cause, IsGiven, NoFault, IsUnlessMemory, LongDesign, WrongDesign, LongPlan, FaultyPlan, LargePlan, Complete}
 use Rattle.vf_top.proofs.ExactLemmas.{unnamed, given_design, given_plan, long_design_given, long_plan_given}
 
 -- the design that was read is the one that is given, and within its limit
@@ -34,7 +35,7 @@ long_design_by words before after design plan (TooLong what) given none long cau
 long_design_by words before after design plan DesignNotBuilt given none long cause =
     let is = given_design words before.shelf design plan cause.0 (limit_of Design) cause.1 given cause.2 cause.3 in
     absurd (omega (arith, ap length is, cause.3.fits, long))
-long_design_by words before after design plan PlanNotJson given none long cause =
+long_design_by words before after design plan (WrongPlan fault) given none long cause =
     absurd (omega (arith, (design_is words before.shelf design plan cause.1.p cause.1.plan_name given cause.1.design).1, long))
 long_design_by words before after design plan PlanNotBuilt given none long cause =
     absurd (omega (arith, (design_is words before.shelf design plan cause.1.p cause.1.plan_name given cause.1.design).1, long))
@@ -58,7 +59,7 @@ wrong_design_by words before after design plan (TooLong Design) given none fits 
     absurd (omega (arith, long_design_given words before.shelf design plan cause.0 (limit_of Design) given cause.1 cause.2, fits))
 wrong_design_by words before after design plan (TooLong Plan) given none fits wrong cause = absurd (wrong cause.0 (is_design words before.shelf design plan cause.0 cause.1 given cause.2))
 wrong_design_by words before after design plan DesignNotBuilt given none fits wrong cause = inl refl
-wrong_design_by words before after design plan PlanNotJson given none fits wrong cause = absurd (wrong cause.1.p (is_design words before.shelf design plan cause.1.p cause.1.plan_name given cause.1.design))
+wrong_design_by words before after design plan (WrongPlan fault) given none fits wrong cause = absurd (wrong cause.1.p (is_design words before.shelf design plan cause.1.p cause.1.plan_name given cause.1.design))
 wrong_design_by words before after design plan PlanNotBuilt given none fits wrong cause = absurd (wrong cause.1.p (is_design words before.shelf design plan cause.1.p cause.1.plan_name given cause.1.design))
 wrong_design_by words before after design plan Write given none fits wrong cause = absurd (none.out cause.2.rose)
 wrong_design_by words before after design plan Memory given none fits wrong cause = inr refl
@@ -84,7 +85,7 @@ long_plan_by words before after design plan p Words given none fits early long c
 long_plan_by words before after design plan p (Failed what) given none fits early long cause = inl refl
 long_plan_by words before after design plan p (TooLong what) given none fits early long cause = inl refl
 long_plan_by words before after design plan p DesignNotBuilt given none fits early long cause = design_accepted 6 words before after design plan p given early cause
-long_plan_by words before after design plan p PlanNotJson given none fits early long cause =
+long_plan_by words before after design plan p (WrongPlan fault) given none fits early long cause =
     let is = given_plan words before.shelf design plan (cause.1.design.design_name, cause.1.plan_name) (limit_of Plan) cause.0 given cause.1.design.named cause.1.input in
     absurd (omega (arith, ap length is, cause.1.input.fits, long))
 long_plan_by words before after design plan p PlanNotBuilt given none fits early long cause =
@@ -93,7 +94,7 @@ long_plan_by words before after design plan p PlanNotBuilt given none fits early
 long_plan_by words before after design plan p Write given none fits early long cause = absurd (none.out cause.2.rose)
 long_plan_by words before after design plan p Memory given none fits early long cause = inr refl
 
-accepted_plan : (words : List (List ℕ)) (shelf : Files) (design plan : List ℕ) (p : Program) (test : OneTest) → IsGiven words shelf design plan → (a : IsAccepted words shelf p test)
+accepted_plan : (words : List (List ℕ)) (shelf : Files) (design plan : List ℕ) (p : Program) (test : Node) → IsGiven words shelf design plan → (a : IsAccepted words shelf p test)
     → (a.bytes ≡ plan) × (length plan ≤ limit_of Plan)
 accepted_plan words shelf design plan p test given a =
     let is = given_plan words shelf design plan (a.design.design_name, a.plan_name) (limit_of Plan) a.bytes given a.design.named a.input in
@@ -105,36 +106,57 @@ long_plan words before after status (reported p test is reports silent) = λ des
 long_plan words before after status (refused refusal is cause shelf work says) = λ design plan q given none fits early long.
     subst (IsUnlessMemory 6) (sym is) (long_plan_by words before after design plan q refusal given none fits early long cause)
 
-wrong_plan_by : (words : List (List ℕ)) (before after : World) (design plan : List ℕ) (p : Program) (refusal : Refusal) → IsGiven words before.shelf design plan → NoFault before after
+refused_plan_by : (words : List (List ℕ)) (before after : World) (design plan : List ℕ) (p : Program) (refusal : Refusal) → IsGiven words before.shelf design plan → NoFault before after
     → length design ≤ limit_of Design → IsEarly design 1024 p → length plan ≤ limit_of Plan → Cause words before after refusal → IsUnlessMemory 4 (status_of refusal)
-wrong_plan_by words before after design plan p Words given none fits early plan_fits cause = absurd (unnamed words given.names cause given.named)
-wrong_plan_by words before after design plan p (Failed Design) given none fits early plan_fits cause = absurd (none.shelf cause.2.rose)
-wrong_plan_by words before after design plan p (Failed Plan) given none fits early plan_fits cause = absurd (none.shelf cause.3.rose)
-wrong_plan_by words before after design plan p (TooLong Design) given none fits early plan_fits cause =
+refused_plan_by words before after design plan p Words given none fits early plan_fits cause = absurd (unnamed words given.names cause given.named)
+refused_plan_by words before after design plan p (Failed Design) given none fits early plan_fits cause = absurd (none.shelf cause.2.rose)
+refused_plan_by words before after design plan p (Failed Plan) given none fits early plan_fits cause = absurd (none.shelf cause.3.rose)
+refused_plan_by words before after design plan p (TooLong Design) given none fits early plan_fits cause =
     absurd (omega (arith, long_design_given words before.shelf design plan cause.0 (limit_of Design) given cause.1 cause.2, fits))
-wrong_plan_by words before after design plan p (TooLong Plan) given none fits early plan_fits cause =
+refused_plan_by words before after design plan p (TooLong Plan) given none fits early plan_fits cause =
     absurd (omega (arith, long_plan_given words before.shelf design plan (cause.2.design_name, cause.1) (limit_of Plan) given cause.2.named cause.3, plan_fits))
-wrong_plan_by words before after design plan p DesignNotBuilt given none fits early plan_fits cause = design_accepted 4 words before after design plan p given early cause
-wrong_plan_by words before after design plan p PlanNotJson given none fits early plan_fits cause = inl refl
-wrong_plan_by words before after design plan p PlanNotBuilt given none fits early plan_fits cause = inl refl
-wrong_plan_by words before after design plan p Write given none fits early plan_fits cause = absurd (none.out cause.2.rose)
-wrong_plan_by words before after design plan p Memory given none fits early plan_fits cause = inr refl
+refused_plan_by words before after design plan p DesignNotBuilt given none fits early plan_fits cause = design_accepted 4 words before after design plan p given early cause
+refused_plan_by words before after design plan p (WrongPlan fault) given none fits early plan_fits cause = inl refl
+refused_plan_by words before after design plan p PlanNotBuilt given none fits early plan_fits cause = inl refl
+refused_plan_by words before after design plan p Write given none fits early plan_fits cause = absurd (none.out cause.2.rose)
+refused_plan_by words before after design plan p Memory given none fits early plan_fits cause = inr refl
 
-pub wrong_plan : (words : List (List ℕ)) (before after : World) (status : ℕ) → Answers words before after status → WrongPlan words before after status
-wrong_plan words before after status (reported p test is reports silent) = λ design plan q fault given none fits early plan_fits refuses.
-    let bytes = (accepted_plan words before.shelf design plan p test given reports.accepted).0 in
-    let both = sym (ap plan_of bytes ∙ refuses) ∙ reports.accepted.plan in
+-- what was accepted is a plan of one node
+one_plan : (words : List (List ℕ)) (shelf : Files) (design plan : List ℕ) (p : Program) (test : Node) → IsGiven words shelf design plan → IsAccepted words shelf p test → plan_of plan ≡ Ok (test ∷ [])
+one_plan words shelf design plan p test given a = ap plan_of (sym (accepted_plan words shelf design plan p test given a).0) ∙ a.plan
+
+pub faulty_plan : (words : List (List ℕ)) (before after : World) (status : ℕ) → Answers words before after status → FaultyPlan words before after status
+faulty_plan words before after status (reported p test is reports silent) = λ design plan q fault given none fits early plan_fits refuses.
+    let both = sym refuses ∙ one_plan words before.shelf design plan p test given reports.accepted in
     absurd (cc)
-wrong_plan words before after status (refused refusal is cause shelf work says) = λ design plan q fault given none fits early plan_fits refuses.
-    subst (IsUnlessMemory 4) (sym is) (wrong_plan_by words before after design plan q refusal given none fits early plan_fits cause)
+faulty_plan words before after status (refused refusal is cause shelf work says) = λ design plan q fault given none fits early plan_fits refuses.
+    subst (IsUnlessMemory 4) (sym is) (refused_plan_by words before after design plan q refusal given none fits early plan_fits cause)
+
+abbrev nodes_in : Result (List Node) PlanFault → List Node
+nodes_in (Ok nodes) = nodes
+nodes_in (Err fault) = []
+
+pub large_plan : (words : List (List ℕ)) (before after : World) (status : ℕ) → Answers words before after status → LargePlan words before after status
+large_plan words before after status (reported p test is reports silent) = λ design plan q nodes given none fits early plan_fits reads many.
+    let same : nodes ≡ test ∷ [] = ap nodes_in (sym reads ∙ one_plan words before.shelf design plan p test given reports.accepted) in
+    let one = ap length same in
+    absurd (omega (arith, one, many))
+large_plan words before after status (refused refusal is cause shelf work says) = λ design plan q nodes given none fits early plan_fits reads many.
+    subst (IsUnlessMemory 4) (sym is) (refused_plan_by words before after design plan q refusal given none fits early plan_fits cause)
 
 -- ---- both accepted
 
-plan_accepted : (plan bytes : List ℕ) (test : OneTest) (fault : EarlyPlan) → bytes ≡ plan → plan_of plan ≡ Ok test → plan_of bytes ≡ Err fault → ⊥
-plan_accepted plan bytes test fault is ok err = let both = sym (ap plan_of is ∙ ok) ∙ err in cc
+plan_accepted : (plan bytes : List ℕ) (nodes : List Node) (fault : PlanFault) → bytes ≡ plan → plan_of plan ≡ Ok nodes → plan_of bytes ≡ Err fault → ⊥
+plan_accepted plan bytes nodes fault is ok err = let both = sym (ap plan_of is ∙ ok) ∙ err in cc
 
-complete_by : (words : List (List ℕ)) (before after : World) (design plan : List ℕ) (p : Program) (test : OneTest) (refusal : Refusal) → IsGiven words before.shelf design plan → NoFault before after
-    → length design ≤ limit_of Design → IsEarly design 1024 p → length plan ≤ limit_of Plan → plan_of plan ≡ Ok test → Cause words before after refusal → IsUnlessMemory 0 (status_of refusal)
+not_large : (plan bytes : List ℕ) (test : Node) (nodes : List Node) → bytes ≡ plan → plan_of plan ≡ Ok (test ∷ []) → plan_of bytes ≡ Ok nodes → 1 < length nodes → ⊥
+not_large plan bytes test nodes is ok reads many =
+    let same : nodes ≡ test ∷ [] = ap nodes_in (sym reads ∙ ap plan_of is ∙ ok) in
+    let one = ap length same in
+    omega (arith, one, many)
+
+complete_by : (words : List (List ℕ)) (before after : World) (design plan : List ℕ) (p : Program) (test : Node) (refusal : Refusal) → IsGiven words before.shelf design plan → NoFault before after
+    → length design ≤ limit_of Design → IsEarly design 1024 p → length plan ≤ limit_of Plan → plan_of plan ≡ Ok (test ∷ []) → Cause words before after refusal → status_of refusal ≡ 8
 complete_by words before after design plan p test Words given none fits early plan_fits ok cause = absurd (unnamed words given.names cause given.named)
 complete_by words before after design plan p test (Failed Design) given none fits early plan_fits ok cause = absurd (none.shelf cause.2.rose)
 complete_by words before after design plan p test (Failed Plan) given none fits early plan_fits ok cause = absurd (none.shelf cause.3.rose)
@@ -142,17 +164,25 @@ complete_by words before after design plan p test (TooLong Design) given none fi
     absurd (omega (arith, long_design_given words before.shelf design plan cause.0 (limit_of Design) given cause.1 cause.2, fits))
 complete_by words before after design plan p test (TooLong Plan) given none fits early plan_fits ok cause =
     absurd (omega (arith, long_plan_given words before.shelf design plan (cause.2.design_name, cause.1) (limit_of Plan) given cause.2.named cause.3, plan_fits))
-complete_by words before after design plan p test DesignNotBuilt given none fits early plan_fits ok cause = design_accepted 0 words before after design plan p given early cause
-complete_by words before after design plan p test PlanNotJson given none fits early plan_fits ok cause =
+complete_by words before after design plan p test DesignNotBuilt given none fits early plan_fits ok cause =
+    let is = given_design words before.shelf design plan cause.0 (limit_of Design) cause.1 given cause.2 cause.3 in
+    absurd (cause.4 p (subst (λ (bytes : List ℕ). IsEarly bytes 1024 p) (sym is) early))
+complete_by words before after design plan p test (WrongPlan fault) given none fits early plan_fits ok cause =
     let is = given_plan words before.shelf design plan (cause.1.design.design_name, cause.1.plan_name) (limit_of Plan) cause.0 given cause.1.design.named cause.1.input in
-    absurd (plan_accepted plan cause.0 test _ is ok cause.2)
+    absurd (plan_accepted plan cause.0 (test ∷ []) fault is ok cause.2)
 complete_by words before after design plan p test PlanNotBuilt given none fits early plan_fits ok cause =
     let is = given_plan words before.shelf design plan (cause.1.design.design_name, cause.1.plan_name) (limit_of Plan) cause.0 given cause.1.design.named cause.1.input in
-    absurd (plan_accepted plan cause.0 test _ is ok cause.2)
+    absurd (not_large plan cause.0 test cause.2 is ok cause.3 cause.4)
 complete_by words before after design plan p test Write given none fits early plan_fits ok cause = absurd (none.out cause.2.rose)
-complete_by words before after design plan p test Memory given none fits early plan_fits ok cause = inr refl
+complete_by words before after design plan p test Memory given none fits early plan_fits ok cause = refl
+
+abbrev first_of : Node → List Node → Node
+first_of none [] = none
+first_of none (test ∷ more) = test
 
 pub complete : (words : List (List ℕ)) (before after : World) (status : ℕ) → Answers words before after status → Complete words before after status
-complete words before after status (reported p test is reports silent) = λ design plan q wanted given none fits early plan_fits ok. inl is
+complete words before after status (reported p test is reports silent) = λ design plan q wanted given none fits early plan_fits ok.
+    let same : test ≡ wanted = ap (λ r. first_of test (nodes_in r)) (sym (one_plan words before.shelf design plan p test given reports.accepted) ∙ ok) in
+    inl (p, is_design words before.shelf design plan p reports.accepted.plan_name given reports.accepted.design, is ∙ ap (report_status p) same)
 complete words before after status (refused refusal is cause shelf work says) = λ design plan q wanted given none fits early plan_fits ok.
-    subst (IsUnlessMemory 0) (sym is) (complete_by words before after design plan q wanted refusal given none fits early plan_fits ok cause)
+    inr (is ∙ complete_by words before after design plan q wanted refusal given none fits early plan_fits ok cause)

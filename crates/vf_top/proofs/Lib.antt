@@ -3,4 +3,3 @@ pub mod WriteLemmas
 pub mod SayLemmas
 pub mod ExactLemmas
 pub mod CauseLemmas
-pub mod PlanLemmas

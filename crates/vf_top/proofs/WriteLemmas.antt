@@ -1,10 +1,14 @@
 -- One line after another.
-use Rattle.std.proofs.Common.{◌≡◌, ℕ, suc, ◌+◌, List, [], ◌∷◌, ◌++◌, length, take, Option, Some, None, option_map, refl, sym, ◌∙◌, ap, subst, arith, append_assoc, zero-add, Result, Ok, Err}
+use Rattle.std.proofs.Common.{◌≡◌, ap₂, ℕ, suc, ◌+◌, List, [], ◌∷◌, ◌++◌, length, take, Option, Some, None, option_map, refl, sym, ◌∙◌, ap, subst, arith, append_assoc, zero-add, Result, Ok, Err}
+use Rattle.std.specs.Prelude.{IfOk}
+use Rattle.vf_base.specs.declared.memory.Memory.{Memory as Wanting}
+use Rattle.vf_base.specs.declared.run.Outcome.{Outcome}
+use Rattle.vf_top.specs.declared.report.Lines.{Lines}
 use Rattle.vf_design.specs.Program.{Program}
-use Rattle.vf_top.specs.declared.plan.OneTest.{OneTest}
+use Rattle.vf_plan.specs.declared.plan.Node.{Node}
 use Rattle.vf_top.specs.declared.refusal.Refusal.{Refusal}
-use Rattle.vf_top.specs.declared.refusal.Refusal.TheVariants.{Words, Failed, TooLong, DesignNotBuilt, PlanNotJson, PlanNotBuilt, Write, Memory}
-use Rattle.vf_top.specs.Report.{report_text, turns_of}
+use Rattle.vf_top.specs.declared.refusal.Refusal.TheVariants.{Words, Failed, TooLong, DesignNotBuilt, WrongPlan, PlanNotBuilt, Write, Memory}
+use Rattle.vf_top.specs.Report.{text_with, totals_with, outcome_of, report_text, status_of_totals, report_status, turns_of}
 use Rattle.vf_top.specs.Answer.{World, FilesKept, IsAccepted}
 use Rattle.vf_top.specs.Steps.{Writes, Ran}
 use Rattle.vf_ports.specs.Sink.{Appends, AppendsPart, AppendsPrefix}
@@ -27,11 +31,11 @@ appends_then_part before middle after x y first second = record {
   is = appends_joined before middle after x (take second.count y) y second.count first second.is refl;
 }
 
--- a write of the report is what a command does by it
-pub ran_by_write : {X : Type 0} (words : List (List ℕ)) (before after : World) (p : Program) (test : OneTest) (report : List ℕ) (r : Result X Refusal)
+-- a report that went out whole
+pub ran_whole : (X : Type 0) (words : List (List ℕ)) (before after : World) (p : Program) (test : Node) (report : List ℕ) (status : ℕ) (x : X)
     → IsAccepted words before.shelf p test → FilesKept before.shelf after.shelf → after.steps ≡ before.steps + turns_of p test → report ≡ report_text p test
-    → Writes before.out after.out report r → Ran words before after r
-ran_by_write words before after p test report (Ok x) accepted kept steps is wrote = (
+    → status ≡ report_status p test → Writes {X = X} before.out after.out report (Ok x) → Ran words before after (Ok status)
+ran_whole X words before after p test report status x accepted kept steps is ends wrote = (
   p,
   test,
   record {
@@ -41,8 +45,14 @@ ran_by_write words before after p test report (Ok x) accepted kept steps is wrot
     shelf = kept;
     steps = steps;
   },
+  ends,
 )
-ran_by_write words before after p test report (Err Write) accepted kept steps is wrote = (
+
+-- and one of which a part went out
+pub ran_part : (X : Type 0) (words : List (List ℕ)) (before after : World) (p : Program) (test : Node) (report : List ℕ) (refusal : Refusal)
+    → IsAccepted words before.shelf p test → FilesKept before.shelf after.shelf → after.steps ≡ before.steps + turns_of p test → report ≡ report_text p test
+    → Writes {X = X} before.out after.out report (Err refusal) → Ran words before after (Err refusal)
+ran_part X words before after p test report Write accepted kept steps is wrote = (
   (
     p,
     test,
@@ -56,10 +66,37 @@ ran_by_write words before after p test report (Err Write) accepted kept steps is
   kept,
   tt,
 )
-ran_by_write words before after p test report (Err Words) accepted kept steps is h = absurd h
-ran_by_write words before after p test report (Err (Failed what)) accepted kept steps is h = absurd h
-ran_by_write words before after p test report (Err (TooLong what)) accepted kept steps is h = absurd h
-ran_by_write words before after p test report (Err DesignNotBuilt) accepted kept steps is h = absurd h
-ran_by_write words before after p test report (Err PlanNotJson) accepted kept steps is h = absurd h
-ran_by_write words before after p test report (Err PlanNotBuilt) accepted kept steps is h = absurd h
-ran_by_write words before after p test report (Err Memory) accepted kept steps is h = absurd h
+ran_part X words before after p test report Words accepted kept steps is h = absurd h
+ran_part X words before after p test report (Failed what) accepted kept steps is h = absurd h
+ran_part X words before after p test report (TooLong what) accepted kept steps is h = absurd h
+ran_part X words before after p test report DesignNotBuilt accepted kept steps is h = absurd h
+ran_part X words before after p test report (WrongPlan fault) accepted kept steps is h = absurd h
+ran_part X words before after p test report PlanNotBuilt accepted kept steps is h = absurd h
+ran_part X words before after p test report Memory accepted kept steps is h = absurd h
+
+-- the report of the plan's only test is that of the node and the outcome that it was made of
+module _ (r : Result Lines Wanting) (p : Program) (plan : List Node) (node : Node) (outcome : Outcome)
+    (same : (test : Node) → plan ≡ test ∷ [] → (node ≡ test) × (outcome ≡ outcome_of p test)) where
+  text_is : (test : Node) → plan ≡ test ∷ [] → text_with node outcome ≡ report_text p test
+  text_is test only = let two = same test only in ap₂ text_with two.0 two.1
+
+  status_is : (test : Node) → plan ≡ test ∷ [] → status_of_totals (totals_with node outcome) ≡ report_status p test
+  status_is test only = let two = same test only in ap₂ (λ n o. status_of_totals (totals_with n o)) two.0 two.1
+
+  told_by : (r : Result Lines Wanting) → IfOk r (λ lines. lines.test.items ++ lines.summary.items ≡ text_with node outcome)
+      → IfOk r (λ lines. (test : Node) → plan ≡ test ∷ [] → lines.test.items ++ lines.summary.items ≡ report_text p test)
+  told_by (Ok lines) h = λ test only. h ∙ text_is test only
+  told_by (Err e) h = tt
+
+  ends_by : (r : Result Lines Wanting) → IfOk r (λ lines. lines.status ≡ status_of_totals (totals_with node outcome))
+      → IfOk r (λ lines. (test : Node) → plan ≡ test ∷ [] → lines.status ≡ report_status p test)
+  ends_by (Ok lines) h = λ test only. h ∙ status_is test only
+  ends_by (Err e) h = tt
+
+  pub report_told : IfOk r (λ lines. lines.test.items ++ lines.summary.items ≡ text_with node outcome)
+      → IfOk r (λ lines. (test : Node) → plan ≡ test ∷ [] → lines.test.items ++ lines.summary.items ≡ report_text p test)
+  report_told = told_by r
+
+  pub report_ends : IfOk r (λ lines. lines.status ≡ status_of_totals (totals_with node outcome))
+      → IfOk r (λ lines. (test : Node) → plan ≡ test ∷ [] → lines.status ≡ report_status p test)
+  report_ends = ends_by r

@@ -1,19 +1,18 @@
 -- What a command does, and why (docs/FARM.md, "The top call").
-use Rattle.std.specs.Prelude.{◌≡◌, ℕ, ◌+◌, ◌<◌, ◌≤◌, ◌⊎◌, ◌↔◌, ⊤, List, length, Option, Some, None, Ok, Err}
+use Rattle.std.specs.Prelude.{◌≡◌, ℕ, ◌+◌, ◌<◌, ◌≤◌, ◌⊎◌, ◌↔◌, ⊤, List, [], ◌∷◌, length, Option, Some, None, Ok, Err}
 use Rattle.vf_ports.specs.Counts.{Rose}
 use Rattle.vf_ports.specs.Shelf.{Told, untold, missing, file, IsFile, GainsName}
 use Rattle.vf_ports.specs.Sink.{Appends, AppendsPrefix}
 use Rattle.vf_design.specs.Program.{Program}
 use Rattle.vf_early.specs.Early.{IsEarly}
-use Rattle.vf_top.specs.declared.plan.OneTest.{OneTest}
-use Rattle.vf_top.specs.declared.plan.EarlyPlan.{EarlyPlan}
-use Rattle.vf_top.specs.declared.plan.EarlyPlan.TheVariants.{NotJson, NotBuilt}
+use Rattle.vf_plan.specs.declared.fault.PlanFault.{PlanFault}
+use Rattle.vf_plan.specs.declared.plan.Node.{Node}
+use Rattle.vf_plan.specs.Reading.{plan_of}
 use Rattle.vf_top.specs.declared.refusal.What.TheVariants.{Design, Plan}
 use Rattle.vf_top.specs.declared.refusal.Refusal.{Refusal}
-use Rattle.vf_top.specs.declared.refusal.Refusal.TheVariants.{Words, Failed, TooLong, DesignNotBuilt, PlanNotJson, PlanNotBuilt, Write, Memory}
+use Rattle.vf_top.specs.declared.refusal.Refusal.TheVariants.{Words, Failed, TooLong, DesignNotBuilt, WrongPlan, PlanNotBuilt, Write, Memory}
 use Rattle.vf_top.specs.Words.{files_of}
-use Rattle.vf_top.specs.Plan.{plan_of}
-use Rattle.vf_top.specs.Report.{report_text, turns_of}
+use Rattle.vf_top.specs.Report.{report_text, report_status, turns_of}
 use Rattle.vf_top.specs.Fault.{status_of, fault_text, limit_of}
 
 -- a shelf at one moment: what it tells of each name, the names of its failed calls, and its count of faults
@@ -63,12 +62,12 @@ pub record HasPlanFile (words : List (List ℕ)) (shelf : Files) (bytes : List �
   pub input : IsInput shelf plan_name (limit_of Plan) bytes
 
 -- the words name a design and a plan of one test
-pub record IsAccepted (words : List (List ℕ)) (shelf : Files) (p : Program) (test : OneTest) : Type 0 where
+pub record IsAccepted (words : List (List ℕ)) (shelf : Files) (p : Program) (test : Node) : Type 0 where
   pub plan_name : List ℕ
   pub design : HasDesign words shelf p plan_name
   pub bytes : List ℕ
   pub input : IsInput shelf plan_name (limit_of Plan) bytes
-  pub plan : plan_of bytes ≡ Ok test
+  pub plan : plan_of bytes ≡ Ok (test ∷ [])
 
 -- ---- What a command leaves
 
@@ -91,7 +90,7 @@ pub record NothingDone (before after : World) : Type 0 where
   pub steps : after.steps ≡ before.steps
 
 -- the report of an accepted test went out whole: its outcome is that of the lone run
-pub record Reports (words : List (List ℕ)) (before after : World) (p : Program) (test : OneTest) : Type 0 where
+pub record Reports (words : List (List ℕ)) (before after : World) (p : Program) (test : Node) : Type 0 where
   pub accepted : IsAccepted words before.shelf p test
   pub report : Appends before.out.written after.out.written (report_text p test)
   pub faults : after.out.faults ≡ before.out.faults
@@ -99,7 +98,7 @@ pub record Reports (words : List (List ℕ)) (before after : World) (p : Program
   pub steps : after.steps ≡ before.steps + turns_of p test
 
 -- the output failed in this call, and a prefix of the report of an accepted test went out
-pub record FailsToWrite (words : List (List ℕ)) (before after : World) (p : Program) (test : OneTest) : Type 0 where
+pub record FailsToWrite (words : List (List ℕ)) (before after : World) (p : Program) (test : Node) : Type 0 where
   pub accepted : IsAccepted words before.shelf p test
   pub part : AppendsPrefix before.out.written after.out.written (report_text p test)
   pub rose : Rose before.out.faults after.out.faults
@@ -117,15 +116,15 @@ ReadCause words before after (TooLong Plan) = (p : Program) × (name : List ℕ)
 ReadCause words before after DesignNotBuilt =
     (names : List ℕ × List ℕ) × (bytes : List ℕ) × (files_of words ≡ Some names) × IsInput before names.0 (limit_of Design) bytes
     × ((p : Program) → IsEarly bytes 1024 p → ⊥)
-ReadCause words before after PlanNotJson = (bytes : List ℕ) × HasPlanFile words before bytes × (plan_of bytes ≡ Err NotJson)
-ReadCause words before after PlanNotBuilt = (bytes : List ℕ) × HasPlanFile words before bytes × (plan_of bytes ≡ Err NotBuilt)
+ReadCause words before after (WrongPlan fault) = (bytes : List ℕ) × HasPlanFile words before bytes × (plan_of bytes ≡ Err fault)
+ReadCause words before after PlanNotBuilt = (bytes : List ℕ) × HasPlanFile words before bytes × (nodes : List Node) × (plan_of bytes ≡ Ok nodes) × (1 < length nodes)
 ReadCause words before after Write = ⊥
 -- want of memory is the one free answer; reading the words takes none
 ReadCause words before after Memory = (names : List ℕ × List ℕ) × (files_of words ≡ Some names)
 
 -- why a command is refused
 abbrev pub Cause : List (List ℕ) → World → World → Refusal → Type 0
-Cause words before after Write = (p : Program) × (test : OneTest) × FailsToWrite words before after p test
+Cause words before after Write = (p : Program) × (test : Node) × FailsToWrite words before after p test
 Cause words before after refusal = ReadCause words before.shelf after.shelf refusal
 
 -- but for its failures, the shelf is as before
@@ -145,11 +144,20 @@ Says before after line =
     (Appends before.written after.written line × (after.faults ≡ before.faults))
     ⊎ (AppendsPrefix before.written after.written line × Rose before.faults after.faults)
 
+-- what telling a refusal comes to: its status and its line, or want of memory for the line of a plan's fault
+abbrev pub HasMadeLine : Refusal → Type 0
+HasMadeLine (WrongPlan fault) = ⊤
+HasMadeLine _ = ⊥
+
+abbrev pub Tells : Output → Output → Refusal → ℕ → Type 0
+Tells before after refusal status =
+    ((status ≡ status_of refusal) × Says before after (fault_text refusal)) ⊎ (HasMadeLine refusal × (status ≡ status_of Memory) × Says before after (fault_text Memory))
+
 -- ---- The answer
 
--- how a command ends: with the whole report and status 0, or with a refusal, its status and its line
+-- how a command ends: with the whole report and its status, or with a refusal, its status and its line
 pub data Answers (words : List (List ℕ)) (before after : World) (status : ℕ) : Type 0 where
-  reported : (p : Program) (test : OneTest) → status ≡ 0 → Reports words before after p test → OutputKept before.err after.err → Answers words before after status
+  reported : (p : Program) (test : Node) → status ≡ report_status p test → Reports words before after p test → OutputKept before.err after.err → Answers words before after status
   refused : (refusal : Refusal) → status ≡ status_of refusal → Cause words before after refusal → ShelfAfter before.shelf after.shelf refusal
       → WorkAfter before after refusal → Says before.err after.err (fault_text refusal) → Answers words before after status
 
@@ -194,13 +202,20 @@ LongPlan words before after status =
     → length design ≤ limit_of Design → IsEarly design 1024 p → limit_of Plan < length plan → IsUnlessMemory 6 status
 
 -- a plan that is refused, beside a design
-abbrev pub WrongPlan : List (List ℕ) → World → World → ℕ → Type 0
-WrongPlan words before after status =
-    (design plan : List ℕ) (p : Program) (fault : EarlyPlan) → IsGiven words before.shelf design plan → NoFault before after
+abbrev pub FaultyPlan : List (List ℕ) → World → World → ℕ → Type 0
+FaultyPlan words before after status =
+    (design plan : List ℕ) (p : Program) (fault : PlanFault) → IsGiven words before.shelf design plan → NoFault before after
     → length design ≤ limit_of Design → IsEarly design 1024 p → length plan ≤ limit_of Plan → plan_of plan ≡ Err fault → IsUnlessMemory 4 status
 
--- a design and a plan that are accepted
+-- a plan of more than one node, beside a design
+abbrev pub LargePlan : List (List ℕ) → World → World → ℕ → Type 0
+LargePlan words before after status =
+    (design plan : List ℕ) (p : Program) (nodes : List Node) → IsGiven words before.shelf design plan → NoFault before after
+    → length design ≤ limit_of Design → IsEarly design 1024 p → length plan ≤ limit_of Plan → plan_of plan ≡ Ok nodes → 1 < length nodes → IsUnlessMemory 4 status
+
+-- a design and a plan that are accepted: the whole report, and its status
 abbrev pub Complete : List (List ℕ) → World → World → ℕ → Type 0
 Complete words before after status =
-    (design plan : List ℕ) (p : Program) (test : OneTest) → IsGiven words before.shelf design plan → NoFault before after
-    → length design ≤ limit_of Design → IsEarly design 1024 p → length plan ≤ limit_of Plan → plan_of plan ≡ Ok test → IsUnlessMemory 0 status
+    (design plan : List ℕ) (p : Program) (test : Node) → IsGiven words before.shelf design plan → NoFault before after
+    → length design ≤ limit_of Design → IsEarly design 1024 p → length plan ≤ limit_of Plan → plan_of plan ≡ Ok (test ∷ [])
+    → ((q : Program) × IsEarly design 1024 q × (status ≡ report_status q test)) ⊎ (status ≡ 8)

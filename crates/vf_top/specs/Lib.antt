@@ -1,4 +1,3 @@
-pub mod Plan
 pub mod Words
 pub mod Fault
 pub mod Report

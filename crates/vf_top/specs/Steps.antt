@@ -1,15 +1,15 @@
 -- What the parts of a command answer.
-use Rattle.std.specs.Prelude.{◌≡◌, ℕ, ⊤, List, Result, Ok, Err}
+use Rattle.std.specs.Prelude.{◌≡◌, ℕ, ◌<◌, ⊤, List, [], ◌∷◌, length, Result, Ok, Err}
 use Rattle.vf_ports.specs.Counts.{Rose}
 use Rattle.vf_design.specs.Program.{Program}
-use Rattle.vf_top.specs.declared.plan.OneTest.{OneTest}
+use Rattle.vf_plan.specs.declared.fault.PlanFault.{PlanFault}
+use Rattle.vf_plan.specs.declared.plan.Node.{Node}
 use Rattle.vf_top.specs.declared.refusal.What.{What}
 use Rattle.vf_top.specs.declared.refusal.Refusal.{Refusal}
-use Rattle.vf_top.specs.declared.refusal.Refusal.TheVariants.{Failed, TooLong, DesignNotBuilt, PlanNotJson, PlanNotBuilt, Write, Memory}
-use Rattle.vf_top.specs.declared.plan.EarlyPlan.{EarlyPlan}
-use Rattle.vf_top.specs.declared.plan.EarlyPlan.TheVariants.{NotJson, NotBuilt}
+use Rattle.vf_top.specs.declared.refusal.Refusal.TheVariants.{Failed, TooLong, DesignNotBuilt, WrongPlan, PlanNotBuilt, Write, Memory}
 use Rattle.vf_early.specs.Early.{IsEarly}
 use Rattle.vf_top.specs.Fault.{limit_of}
+use Rattle.vf_top.specs.Report.{report_status}
 use Rattle.vf_ports.specs.Sink.{Appends, AppendsPrefix}
 use Rattle.vf_top.specs.Answer.{Files, Output, World, FilesKept, ShelfFailed, ShelfAfter, WorkAfter, IsInput, IsLong, IsAccepted, ReadCause, Cause, Reports}
 
@@ -21,10 +21,10 @@ Fetched view before after name what (Err (TooLong other)) = (other ≡ what) × 
 Fetched view before after name what (Err Memory) = FilesKept before after
 Fetched view before after name what (Err _) = ⊥
 
--- what reading the words and both files gives, seen by design and test
-abbrev pub Accepts : {X : Type 0} → (X → Program) → (X → OneTest) → List (List ℕ) → Files → Files → Result X Refusal → Type 0
-Accepts design test words before after (Ok x) = IsAccepted words before (design x) (test x) × FilesKept before after
-Accepts design test words before after (Err refusal) = ReadCause words before after refusal × ShelfAfter before after refusal
+-- what reading the words and both files gives, seen by design and nodes
+abbrev pub Accepts : {X : Type 0} → (X → Program) → (X → List Node) → List (List ℕ) → Files → Files → Result X Refusal → Type 0
+Accepts design nodes words before after (Ok x) = (test : Node) × (nodes x ≡ test ∷ []) × IsAccepted words before (design x) test × FilesKept before after
+Accepts design nodes words before after (Err refusal) = ReadCause words before after refusal × ShelfAfter before after refusal
 
 -- the design that the bytes spell, or that they spell none
 abbrev pub BuildsDesign : List ℕ → Result Program Refusal → Type 0
@@ -33,11 +33,11 @@ BuildsDesign bytes (Err DesignNotBuilt) = (p : Program) → IsEarly bytes 1024 p
 BuildsDesign bytes (Err Memory) = ⊤
 BuildsDesign bytes (Err _) = ⊥
 
--- the test that a plan reads as, or its fault
-abbrev pub ReadsTest : Result OneTest EarlyPlan → Result OneTest Refusal → Type 0
-ReadsTest read (Ok test) = read ≡ Ok test
-ReadsTest read (Err PlanNotJson) = read ≡ Err NotJson
-ReadsTest read (Err PlanNotBuilt) = read ≡ Err NotBuilt
+-- the plan that the bytes are, its fault, or that it has more than one node
+abbrev pub ReadsTest : Result (List Node) PlanFault → Result (List Node) Refusal → Type 0
+ReadsTest read (Ok nodes) = (read ≡ Ok nodes) × (length nodes ≡ 1)
+ReadsTest read (Err (WrongPlan fault)) = read ≡ Err fault
+ReadsTest read (Err PlanNotBuilt) = (nodes : List Node) × (read ≡ Ok nodes) × (1 < length nodes)
 ReadsTest read (Err Memory) = ⊤
 ReadsTest read (Err _) = ⊥
 
@@ -48,6 +48,6 @@ Writes before after report (Err Write) = AppendsPrefix before.written after.writ
 Writes before after report (Err _) = ⊥
 
 -- what a command does, but for the error output
-abbrev pub Ran : {X : Type 0} → List (List ℕ) → World → World → Result X Refusal → Type 0
-Ran words before after (Ok _) = (p : Program) × (test : OneTest) × Reports words before after p test
+abbrev pub Ran : List (List ℕ) → World → World → Result ℕ Refusal → Type 0
+Ran words before after (Ok status) = (p : Program) × (test : Node) × Reports words before after p test × (status ≡ report_status p test)
 Ran words before after (Err refusal) = Cause words before after refusal × ShelfAfter before.shelf after.shelf refusal × WorkAfter before after refusal

@@ -1,15 +1,15 @@
 ghost use Rattle.std.specs.Prelude.{◌≡◌, ◌^◌, ◌≤◌, length, map};
 ghost use Rattle.std.specs.Option.{option_map};
 ghost use Rattle.std.specs.String.{string_bytes};
-ghost use Rattle.vf_top.specs.Plan.{plan_of};
+ghost use Rattle.vf_plan.specs.Reading.{plan_of};
 ghost use Rattle.vf_top.specs.Steps.{Fetched, Accepts, BuildsDesign, ReadsTest};
 ghost use Rattle.vf_top.specs.Words.{files_of, begins_with_dash};
 
-use crate::plan::{EarlyPlan, OneTest, one_test};
 use crate::refusal::{Refusal, What};
 use std::alloc::Global;
 use vf_design::Design;
 use vf_early::{EarlyFault, early_design};
+use vf_plan::{Plan, PlanKind, read_plan};
 use vf_ports::{Shelf, ShelfRefusal};
 
 /// How many event slots a design has.
@@ -70,15 +70,21 @@ fn design_in(alloc: Global, bytes: &[u8]) -> Result<Design, Refusal>
     }
 }
 
-/// The test that the bytes of a plan describe.
-fn test_in(alloc: Global, bytes: &[u8]) -> Result<OneTest, Refusal>
+/// The plan that the bytes are, if it has one node.
+fn plan_in(alloc: Global, bytes: &[u8]) -> Result<Plan, Refusal>
     ensures { ReadsTest (plan_of bytes.now) result }
 {
-    match one_test(alloc, bytes) {
-        Ok(test) => Ok(test),
-        Err(EarlyPlan::NotJson) => Err(Refusal::PlanNotJson),
-        Err(EarlyPlan::NotBuilt) => Err(Refusal::PlanNotBuilt),
-        Err(EarlyPlan::Memory) => Err(Refusal::Memory),
+    match read_plan(alloc, bytes) {
+        Ok(plan) => {
+            if plan.nodes.len() > 1 {
+                return Err(Refusal::PlanNotBuilt);
+            }
+            Ok(plan)
+        }
+        Err(fault) => match fault.kind {
+            PlanKind::Memory => Err(Refusal::Memory),
+            _ => Err(Refusal::WrongPlan(fault)),
+        },
     }
 }
 
@@ -87,7 +93,7 @@ pub fn accept<S: Shelf>(
     alloc: Global,
     words: &[String],
     shelf: &mut S,
-) -> Result<(Design, OneTest), Refusal>
+) -> Result<(Design, Plan), Refusal>
     ensures { Accepts (λ x. x.0) (λ x. x.1) (map string_bytes words.now)
         (record { holds = S.holds shelf.old; failed = S.failed shelf.old; faults = S.faults shelf.old })
         (record { holds = S.holds shelf.new; failed = S.failed shelf.new; faults = S.faults shelf.new })
@@ -99,6 +105,6 @@ pub fn accept<S: Shelf>(
     let bytes = fetch(alloc, shelf, design_name, What::Design)?;
     let design = design_in(alloc, &bytes)?;
     let bytes = fetch(alloc, shelf, plan_name, What::Plan)?;
-    let test = test_in(alloc, &bytes)?;
-    Ok((design, test))
+    let plan = plan_in(alloc, &bytes)?;
+    Ok((design, plan))
 }

@@ -1,11 +1,11 @@
 ghost use Rattle.std.specs.Prelude.{◌≡◌, ◌+◌, ◌++◌, ◌^◌, ◌<◌, ◌≤◌, ◌↔◌, None, map};
 ghost use Rattle.std.specs.String.{string_bytes};
 ghost use Rattle.vf_top.specs.Words.{files_of};
-ghost use Rattle.vf_top.specs.Answer.{Output, Answers, WordsExact, LongDesign, WrongDesign, LongPlan, WrongPlan, Complete};
+ghost use Rattle.vf_top.specs.Answer.{Output, Answers, WordsExact, LongDesign, WrongDesign, LongPlan, FaultyPlan, LargePlan, Complete, Tells};
 ghost use Rattle.vf_top.specs.Steps.{Ran, Writes};
 
 use crate::accept::accept;
-use crate::refusal::Refusal;
+use crate::refusal::{Refusal, memory_line, plan_line};
 use crate::report::{Lines, report};
 use std::alloc::Global;
 use std::sync::ledger::Ledger;
@@ -35,7 +35,7 @@ fn run<S: Shelf, K: Sink, L: Ledger>(
     shelf: &mut S,
     out: &mut K,
     steps: &mut Steps<L>,
-) -> Result<(), Refusal>
+) -> Result<u8, Refusal>
     requires { steps.old.count < 2 ^ 62 }
     ensures ran { (err told : Output) → Ran (map string_bytes words.now)
         (record {
@@ -53,11 +53,38 @@ fn run<S: Shelf, K: Sink, L: Ledger>(
         result }
     ensures parts { steps.new.parts ≡ steps.old.parts }
 {
-    let (design, test) = accept(alloc, words, shelf)?;
-    let Ok(lines) = report(alloc, &design, &test, steps) else {
+    let (design, plan) = accept(alloc, words, shelf)?;
+    let Ok(lines) = report(alloc, design, plan, steps) else {
         return Err(Refusal::Memory);
     };
-    write(out, &lines)
+    write(out, &lines)?;
+    Ok(lines.status)
+}
+
+/// Writes the fault line of a refusal, and gives its status. Where memory for the line is wanting, that
+/// is what is told.
+fn tell<E: Sink>(alloc: Global, err: &mut E, refusal: Refusal) -> u8
+    ensures { Tells
+        (record { written = E.written err.old; faults = E.faults err.old })
+        (record { written = E.written err.new; faults = E.faults err.new })
+        refusal result }
+{
+    match refusal.line() {
+        Ok(line) => {
+            let _ = put_all(err, line);
+            refusal.status()
+        }
+        Err(fault) => match plan_line(alloc, fault) {
+            Ok(line) => {
+                let _ = put_all(err, &line);
+                4
+            }
+            Err(_) => {
+                let _ = put_all(err, memory_line());
+                8
+            }
+        },
+    }
 }
 
 /// Does the command and tells a refusal.
@@ -87,11 +114,8 @@ fn answer<S: Shelf, K: Sink, E: Sink, L: Ledger>(
     ensures parts { steps.new.parts ≡ steps.old.parts }
 {
     match run(alloc, words, shelf, out, steps) {
-        Ok(()) => 0,
-        Err(refusal) => {
-            let _ = put_all(err, refusal.line());
-            refusal.status()
-        }
+        Ok(status) => status,
+        Err(refusal) => tell(alloc, err, refusal),
     }
 }
 
@@ -100,10 +124,12 @@ fn answer<S: Shelf, K: Sink, E: Sink, L: Ledger>(
 ///
 /// | Status | Comes |
 /// |---|---|
-/// | 0 | the whole report of the test was written to `out`, and nothing to `err` |
+/// | 0 | the whole report was written to `out`, and nothing to `err`; none of 1, 5 and 8 stands in it |
+/// | 1 | a whole report: the bytes of a completed test differ from those that the plan expects |
 /// | 2 | exactly where the words are not two names of files |
 /// | 3 | exactly where the design's bytes are no early design |
-/// | 4 | exactly where the plan's bytes are no JSON text, or no plan of one test |
+/// | 4 | exactly where the plan's bytes are no plan, or one of more than one node |
+/// | 5 | a whole report: the test's lone run touches more pages than the budget |
 /// | 6 | the shelf failed in this call, or exactly where a file is above its limit |
 /// | 7 | the output failed in this call; a prefix of the report went out |
 /// | 8 | want of memory; nothing was written to `out` |
@@ -181,7 +207,21 @@ pub fn command_here<S: Shelf, K: Sink, E: Sink, L: Ledger>(
           steps = steps.new.count;
         })
         result }
-    ensures wrong_plan { WrongPlan (map string_bytes words.now)
+    ensures faulty_plan { FaultyPlan (map string_bytes words.now)
+        (record {
+          shelf = record { holds = S.holds shelf.old; failed = S.failed shelf.old; faults = S.faults shelf.old };
+          out = record { written = K.written out.old; faults = K.faults out.old };
+          err = record { written = E.written err.old; faults = E.faults err.old };
+          steps = steps.old.count;
+        })
+        (record {
+          shelf = record { holds = S.holds shelf.new; failed = S.failed shelf.new; faults = S.faults shelf.new };
+          out = record { written = K.written out.new; faults = K.faults out.new };
+          err = record { written = E.written err.new; faults = E.faults err.new };
+          steps = steps.new.count;
+        })
+        result }
+    ensures large_plan { LargePlan (map string_bytes words.now)
         (record {
           shelf = record { holds = S.holds shelf.old; failed = S.failed shelf.old; faults = S.faults shelf.old };
           out = record { written = K.written out.old; faults = K.faults out.old };

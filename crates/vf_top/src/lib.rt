@@ -1,20 +1,19 @@
 //! The top call: all that the program does, over a shelf of files, two outputs and a step counter that
 //! are handed in.
 //!
-//! It stands on vf_base, vf_machine, vf_ports, vf_design, vf_early, vf_solo and vf_report. `command_here`
+//! It stands on vf_base, vf_machine, vf_ports, vf_design, vf_early, vf_solo, vf_plan
+//! and vf_report. `command_here`
 //! is the theorem of the program (docs/FARM.md, "The top call"): the report's lines are those of the
 //! test run alone from time zero, and each other answer has its exact cause.
 #![tactic(auto)]
 
 mod accept;
 mod command;
-mod plan;
 mod refusal;
 mod report;
 
 pub use command::command_here;
-pub use plan::{EarlyPlan, OneTest, one_test};
-pub use refusal::{Refusal, What};
+pub use refusal::{Refusal, What, memory_line, plan_line};
 
 #[cfg(test)]
 mod tests;

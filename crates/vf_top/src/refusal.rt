@@ -1,5 +1,9 @@
-ghost use Rattle.std.specs.Prelude.{◌≡◌};
-ghost use Rattle.vf_top.specs.Fault.{fault_text, status_of, limit_of};
+ghost use Rattle.std.specs.Prelude.{◌≡◌, ◌++◌, IfOk, IfErr, OnOk};
+ghost use Rattle.vf_top.specs.Fault.{fault_text, kind_text, node_text, status_of, limit_of};
+
+use std::alloc::Global;
+use vf_base::{Memory, write_decimal};
+use vf_plan::{PlanFault, PlanKind};
 
 /// One of the two files.
 #[derive(Clone, Copy, Debug, PartialEq, Eq)]
@@ -19,9 +23,9 @@ pub enum Refusal {
     TooLong(What),
     /// The design is no early design.
     DesignNotBuilt,
-    /// The plan is no JSON text.
-    PlanNotJson,
-    /// The plan is no plan of one test.
+    /// The bytes of the plan are none.
+    WrongPlan(PlanFault),
+    /// The plan has more than one node.
     PlanNotBuilt,
     /// The output took less than the whole report.
     Write,
@@ -69,26 +73,74 @@ impl Refusal {
         match self {
             Refusal::Words => 2,
             Refusal::DesignNotBuilt => 3,
-            Refusal::PlanNotJson | Refusal::PlanNotBuilt => 4,
+            Refusal::WrongPlan(_) | Refusal::PlanNotBuilt => 4,
             Refusal::Failed(_) | Refusal::TooLong(_) => 6,
             Refusal::Write => 7,
             Refusal::Memory => 8,
         }
     }
 
-    /// The fault line. It takes no memory, so that want of memory can be told.
-    pub fn line(self) -> &'static [u8]
-        ensures { result.now ≡ fault_text self }
+    /// The fault line, where it is the same for each such refusal; it takes no memory, so that want of
+    /// memory can be told. Of a plan's fault the line is made by [`plan_line`].
+    pub fn line(self) -> Result<&'static [u8], PlanFault>
+        ensures line { IfOk result (λ line. line.now ≡ fault_text self) }
+        ensures made { IfErr result (λ fault. self ≡ Refusal.WrongPlan fault) }
     {
         match self {
-            Refusal::Words => b"vfarm: words: 1 Refused\n",
-            Refusal::Failed(what) => what.failed_line(),
-            Refusal::TooLong(what) => what.long_line(),
-            Refusal::DesignNotBuilt => b"vfarm: design: early 1 NotBuilt\n",
-            Refusal::PlanNotJson => b"vfarm: plan: 1 NotJson\n",
-            Refusal::PlanNotBuilt => b"vfarm: plan: 11 NotBuilt\n",
-            Refusal::Write => b"vfarm: write failed\n",
-            Refusal::Memory => b"vfarm: memory\n",
+            Refusal::Words => Ok(b"vfarm: words: 1 Refused\n"),
+            Refusal::Failed(what) => Ok(what.failed_line()),
+            Refusal::TooLong(what) => Ok(what.long_line()),
+            Refusal::DesignNotBuilt => Ok(b"vfarm: design: early 1 NotBuilt\n"),
+            Refusal::WrongPlan(fault) => Err(fault),
+            Refusal::PlanNotBuilt => Ok(b"vfarm: plan: 11 NotBuilt\n"),
+            Refusal::Write => Ok(b"vfarm: write failed\n"),
+            Refusal::Memory => Ok(memory_line()),
         }
     }
+}
+
+/// The fault line of want of memory.
+pub fn memory_line() -> &'static [u8]
+    ensures { result.now ≡ fault_text Refusal.Memory }
+{
+    b"vfarm: memory\n"
+}
+
+fn kind_text(kind: PlanKind) -> &'static [u8]
+    ensures { result.now ≡ kind_text kind }
+{
+    match kind {
+        PlanKind::NotJson => b"1 NotJson",
+        PlanKind::Shape => b"2 Shape",
+        PlanKind::DuplicateName => b"3 DuplicateName",
+        PlanKind::UnknownParent => b"4 UnknownParent",
+        PlanKind::TooMany => b"5 TooMany",
+        PlanKind::TooLong => b"6 TooLong",
+        PlanKind::BadHex => b"7 BadHex",
+        PlanKind::NoTest => b"8 NoTest",
+        PlanKind::TooDeep => b"9 TooDeep",
+        PlanKind::Memory => b"10 Memory",
+    }
+}
+
+/// Tells the node at fault, where one is.
+fn write_node(node: Option<u32>, into: &mut Vec<u8>) -> Result<(), Memory>
+    ensures { OnOk result (into.new.items ≡ into.old.items ++ node_text node) }
+{
+    let Some(node) = node else {
+        return Ok(());
+    };
+    into.extend_from_slice(b" at node ")?;
+    write_decimal(u64::from(node), into)
+}
+
+/// The fault line of a plan that is none.
+pub fn plan_line(alloc: Global, fault: PlanFault) -> Result<Vec<u8>, Memory>
+    ensures { IfOk result (λ line. line.items ≡ fault_text (Refusal.WrongPlan fault)) }
+{
+    let mut line = Vec::from_slice(alloc, b"vfarm: plan: ")?;
+    line.extend_from_slice(kind_text(fault.kind))?;
+    write_node(fault.node, &mut line)?;
+    line.extend_from_slice(b"\n")?;
+    Ok(line)
 }

@@ -133,6 +133,110 @@ fn the_echo_says_what_it_reads(rt: HostRuntime) -> Result<(), Fail> {
     Ok(())
 }
 
+/// A plan of a version whose only node, the test `t`, has these members too.
+fn one_node(alloc: Global, version: u32, members: &str) -> Result<String, Memory> {
+    Ok(format!(in alloc;
+        "{{\"version\":{version},\"nodes\":[{{\"name\":\"t\",\"test\":true,{members}}}]}}"
+    )?)
+}
+
+fn met_counts() -> &'static str {
+    "tests 1 completed 1 met 1 failed 0 pages 0 memory 0 turns 20\n"
+}
+
+fn failed_counts() -> &'static str {
+    "tests 1 completed 1 met 0 failed 1 pages 0 memory 0 turns 20\n"
+}
+
+#[test]
+fn a_test_has_an_expectation_and_limits_of_its_own(rt: HostRuntime) -> Result<(), Fail> {
+    for (version, members, status, line, counts) in [
+        (
+            1u32,
+            "\"hex\":\"68690A\",\"expect\":\"68690a\"",
+            0u8,
+            "finish:0 turns 20 bytes 3 out 68690a expect met",
+            met_counts(),
+        ),
+        (
+            1,
+            "\"text\":\"hi\\n\",\"expect_text\":\"hx\\n\"",
+            1,
+            "finish:0 turns 20 bytes 3 out 68690a expect differs:3:1",
+            failed_counts(),
+        ),
+        (
+            1,
+            "\"text\":\"hi\\n\",\"expect_text\":\"hi\"",
+            1,
+            "finish:0 turns 20 bytes 3 out 68690a expect differs:2:2",
+            failed_counts(),
+        ),
+        (
+            2,
+            "\"text\":\"hi\\n\",\"turns\":19",
+            0,
+            "turns turns 19 bytes 3 out 68690a expect none",
+            "tests 1 completed 1 met 0 failed 0 pages 0 memory 0 turns 19\n",
+        ),
+        (
+            2,
+            "\"text\":\"hi\\n\",\"output\":2",
+            0,
+            "output turns 14 bytes 2 out 6869 expect none",
+            "tests 1 completed 1 met 0 failed 0 pages 0 memory 0 turns 14\n",
+        ),
+    ] {
+        let plan = one_node(rt.alloc(), version, members)?;
+        let files = files(rt.alloc(), echo(), plan.as_str())?;
+        let told = told(rt.alloc(), &["d.v", "p.json"], files, 0, 0, 4096)?;
+        let report = format!(in rt.alloc(); "test t {line}\n{counts}")?;
+        assert_eq!(rt; told.out.bytes(), report.as_bytes());
+        assert_eq!(rt; told.status, status, "at {line}");
+        assert_eq!(rt; told.err.bytes(), "".as_bytes());
+    }
+    Ok(())
+}
+
+#[test]
+fn a_plan_that_is_none_tells_its_first_fault(rt: HostRuntime) -> Result<(), Fail> {
+    for (plan, line) in [
+        (
+            r#"{"version":1,"nodes":[{"name":"a","text":"x","after":"b","test":true},{"name":"b","text":"y"}]}"#,
+            "vfarm: plan: 4 UnknownParent at node 0\n",
+        ),
+        (
+            r#"{"version":1,"nodes":[{"name":"a","text":"x","test":true},{"name":"a","text":"y"}]}"#,
+            "vfarm: plan: 3 DuplicateName at node 1\n",
+        ),
+        (r#"{"version":1,"nodes":["#, "vfarm: plan: 1 NotJson\n"),
+        (
+            r#"{"version":1,"nodes":[{"name":"t","text":"hi\n","test":true,"turns":5}]}"#,
+            "vfarm: plan: 2 Shape at node 0\n",
+        ),
+        (r#"{"version":1,"nodes":[]}"#, "vfarm: plan: 2 Shape\n"),
+        (
+            r#"{"version":1,"nodes":[{"name":"t","text":""}]}"#,
+            "vfarm: plan: 8 NoTest\n",
+        ),
+        (
+            r#"{"version":1,"nodes":[{"name":"t","hex":"0","test":true}]}"#,
+            "vfarm: plan: 7 BadHex at node 0\n",
+        ),
+        (
+            r#"{"version":1,"nodes":[{"name":"t","text":"","test":true},{"name":"u","text":""}]}"#,
+            "vfarm: plan: 11 NotBuilt\n",
+        ),
+    ] {
+        let files = files(rt.alloc(), echo(), plan)?;
+        let told = told(rt.alloc(), &["d.v", "p.json"], files, 0, 0, 4096)?;
+        assert_eq!(rt; told.status, 4, "at {line}");
+        assert_eq!(rt; told.out.bytes(), "".as_bytes(), "at {line}");
+        assert_eq!(rt; told.err.bytes(), line.as_bytes(), "at {line}");
+    }
+    Ok(())
+}
+
 #[test]
 fn each_refusal_tells_its_cause(rt: HostRuntime) -> Result<(), Fail> {
     for (design, plan, status, line) in [
@@ -143,12 +247,6 @@ fn each_refusal_tells_its_cause(rt: HostRuntime) -> Result<(), Fail> {
             "vfarm: design: early 1 NotBuilt\n",
         ),
         (empty_design(), "{", 3, "vfarm: design: early 1 NotBuilt\n"),
-        (
-            echo(),
-            "{\"version\":1,\"nodes\":[",
-            4,
-            "vfarm: plan: 1 NotJson\n",
-        ),
         (echo(), two_nodes(), 4, "vfarm: plan: 11 NotBuilt\n"),
     ] {
         let files = files(rt.alloc(), design, plan)?;

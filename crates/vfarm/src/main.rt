@@ -47,7 +47,9 @@ fn words(rt: &HostRuntime) -> io::Result<Vec<String>> {
 
 /// Tells a refusal that comes before the top call has its words.
 fn refuse(rt: &HostRuntime, refusal: Refusal) -> u8 {
-    let _ = put_all(&mut OutSink::new(rt.stderr()), refusal.line());
+    if let Ok(line) = refusal.line() {
+        let _ = put_all(&mut OutSink::new(rt.stderr()), line);
+    }
     refusal.status()
 }
 

@@ -1,9 +1,11 @@
-use Rattle.std.proofs.Common.{ℕ, List, Err, map, sym, subst}
+use Rattle.std.proofs.Common.{ℕ, List, ◌∙◌, Ok, Err, map, ap, sym, subst}
 use Rattle.std.proofs.lemmas.Result.{err_from_is_err_and}
 use Rattle.std.specs.String.{string_bytes}
+use Rattle.vf_plan.specs.Reading.{plan_of}
+use Rattle.vf_ports.specs.Shelf.{Told, IsFile}
 use Rattle.vf_top.specs.Answer.{Files}
 use Rattle.vf_top.specs.Steps.{BuildsDesign}
-use Rattle.vf_top.proofs.ReadLemmas.{design_refused}
+use Rattle.vf_top.proofs.ReadLemmas.{design_refused, only_node}
 use Rattle.vf_top.proofs.accept.accept.Goals as goal
 
 pub returns-in_err-design : goal.returns-in_err-design
@@ -14,3 +16,33 @@ returns-in_err-design g c =
     let after : Files = record { holds = S.holds c.fetch.new.shelf; failed = S.failed c.fetch.new.shelf; faults = S.faults c.fetch.new.shelf } in
     rw (p.1, p.2) (design_refused (map string_bytes c.args.words.now) before after (c.in-Some.design_name.now, c.in-Some.plan_name.now) c.in_ok-bytes.bytes.items
     c.in_err-design.field-0.0 (sym c.in-Some.ensures) c.in_ok-bytes.ensures.fetched.0 c.in_ok-bytes.ensures.fetched.1 (subst (λ (bytes : List ℕ). BuildsDesign bytes (Err c.in_err-design.field-0.0)) c.deref.ensures.value c.in_err-design.ensures))
+
+pub returns : goal.returns
+returns g c =
+    let S = g.S.Shelf in
+    let read = c.in_ok-plan.ensures in
+    let one = only_node c.in_ok-plan.plan read.1 in
+    let design = subst (λ (bytes : List ℕ). BuildsDesign bytes (Ok c.in_ok-design.design)) c.deref.ensures.value c.in_ok-design.ensures in (
+      one.0,
+      one.1,
+      record {
+        plan_name = c.in-Some.plan_name.now;
+        design = record {
+          design_name = c.in-Some.design_name.now;
+          named = sym c.in-Some.ensures;
+          bytes = c.in_ok-bytes.bytes.items;
+          input = c.in_ok-bytes.ensures.fetched.0;
+          early = design;
+        };
+        bytes = c.in_ok-bytes-2.bytes.items;
+        input = record {
+          is = subst (λ (holds : List ℕ → Told). IsFile (holds c.in-Some.plan_name.now) c.in_ok-bytes-2.bytes.items) c.in_ok-bytes.ensures.kept c.in_ok-bytes-2.ensures.fetched.0.is;
+          fits = c.in_ok-bytes-2.ensures.fetched.0.fits;
+        };
+        plan = ap plan_of (sym c.deref-2.ensures.value) ∙ read.0 ∙ ap (λ nodes. Ok nodes) one.1;
+      },
+      record {
+        faults = c.in_ok-bytes-2.ensures.fetched.1.faults ∙ c.in_ok-bytes.ensures.fetched.1.faults;
+        failed = c.in_ok-bytes-2.ensures.fetched.1.failed ∙ c.in_ok-bytes.ensures.fetched.1.failed;
+      },
+    )
