@@ -1,0 +1,8 @@
+pub mod Bytes
+pub mod Words
+pub mod Strings
+pub mod Numbers
+pub mod Signs
+pub mod Lexemes
+pub mod Laws
+pub mod Reading
