@@ -47,7 +47,7 @@ written-beyond p a old ws ne =
     ap (λ xs. written xs a old) (sym (own-append-beyond p ws)) ∙ written-append (own p ws) (beyond p ws) a old
     ∙ ap (written (beyond p ws) a) (written-untouched (own p ws) a old (false_from_ne_true (touches (a / 64) (own p ws)) (λ t. ne (touches-AllOn p (a / 64) (own p ws) (AllOn-own p ws) t))))
 
-in_place-beyond : (p : ℕ) (ws : List (ℕ × ℕ)) (fresh : List Page) (e : Page) → e.page ≢ p → in_place ws fresh e ≡ in_place (beyond p ws) fresh e
+pub in_place-beyond : (p : ℕ) (ws : List (ℕ × ℕ)) (fresh : List Page) (e : Page) → e.page ≢ p → in_place ws fresh e ≡ in_place (beyond p ws) fresh e
 in_place-beyond p ws fresh e ne =
     in_place-same ws (beyond p ws) fresh e (touches-beyond p e.page ws ne)
     (after-same ws (beyond p ws) e.page e.words (λ a old at. written-beyond p a old ws (λ same. ne (sym at ∙ same))))
@@ -92,7 +92,7 @@ in_place-skip p ws fresh es why =
     (cases_eq e.page p)))
     why
 
-map-above : (f g : Page → Page) (low limit : ℕ) (es : List Page) → rises low limit (pages_in es) ≡ true → ((e : Page) → low ≤ e.page → f e ≡ g e) → map f es ≡ map g es
+pub map-above : (f g : Page → Page) (low limit : ℕ) (es : List Page) → rises low limit (pages_in es) ≡ true → ((e : Page) → low ≤ e.page → f e ≡ g e) → map f es ≡ map g es
 map-above f g low limit [] r h = refl
 map-above f g low limit (x ∷ xs) r h =
     let parts = rises-parts low limit x.page (pages_in xs) r in

@@ -11,5 +11,7 @@ pub mod Lookups
 pub mod InPlaces
 pub mod Counting
 pub mod Results
+pub mod Copying
+pub mod Merging
 pub mod Changes
 pub mod Shuffles

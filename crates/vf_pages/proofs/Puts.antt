@@ -9,15 +9,15 @@ use Rattle.vf_pages.specs.Needs.{is_new}
 use Rattle.vf_pages.specs.Puts.{put, puts, frame_count}
 use Rattle.vf_pages.proofs.Entries.{rises-parts, rises-from, entry-here, entry-other, entry-below}
 
-put-same : (e x : Page) (xs : List Page) → e.page ≡ x.page → put e (x ∷ xs) ≡ e ∷ xs
+pub put-same : (e x : Page) (xs : List Page) → e.page ≡ x.page → put e (x ∷ xs) ≡ e ∷ xs
 put-same e x xs h = rw (eq-eqb e.page x.page h) refl
 
-put-before : (e x : Page) (xs : List Page) → e.page < x.page → put e (x ∷ xs) ≡ e ∷ (x ∷ xs)
+pub put-before : (e x : Page) (xs : List Page) → e.page < x.page → put e (x ∷ xs) ≡ e ∷ (x ∷ xs)
 put-before e x xs h =
     let ne : e.page ≢ x.page = omega arith in
     rw (ne_eqb e.page x.page ne, lt-ltb e.page x.page h) refl
 
-put-after : (e x : Page) (xs : List Page) → x.page < e.page → put e (x ∷ xs) ≡ x ∷ put e xs
+pub put-after : (e x : Page) (xs : List Page) → x.page < e.page → put e (x ∷ xs) ≡ x ∷ put e xs
 put-after e x xs h =
     let ne : e.page ≢ x.page = omega arith in
     rw (ne_eqb e.page x.page ne, le-ltb e.page x.page (omega arith)) refl

@@ -21,7 +21,7 @@ use Rattle.vf_pages.proofs.Notes.{notes-then, rest-then, any-left}
 use Rattle.vf_pages.proofs.Frames.{or_entry-cases}
 
 -- a page written in place keeps its number and its frame
-in_place-page : (ws : List (ℕ × ℕ)) (fresh : List Page) (e : Page) → ((in_place ws fresh e).page ≡ e.page) × ((in_place ws fresh e).frame ≡ e.frame)
+pub in_place-page : (ws : List (ℕ × ℕ)) (fresh : List Page) (e : Page) → ((in_place ws fresh e).page ≡ e.page) × ((in_place ws fresh e).frame ≡ e.frame)
 in_place-page ws fresh e = over (touches e.page ws && is_none (entry e.page fresh)) (after ws e.page e.words) e
   where
     over : (b : Bool) (xs : List ℕ) (e : Page) → ((cond b (record { page = e.page; frame = e.frame; words = xs }) e).page ≡ e.page) × ((cond b (record { page = e.page; frame = e.frame; words = xs }) e).frame ≡ e.frame)

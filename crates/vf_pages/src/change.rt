@@ -1,4 +1,4 @@
-ghost use Rattle.std.specs.Prelude.{◌≡◌, ℕ, ◌+◌, ◌≤◌, [], ◌∷◌, List, length, vec_len, vec_capacity, map, IfErr, OnOk, OnErr};
+ghost use Rattle.std.specs.Prelude.{◌≡◌, ℕ, ◌+◌, ◌≤◌, [], ◌∷◌, List, length, vec_len, vec_capacity, map, IfErr, IfOk, OnOk, OnErr};
 ghost use Rattle.std.specs.Arc.{arc_value};
 ghost use Rattle.vf_frames.specs.declared.holder.Holder.{Holder};
 ghost use Rattle.vf_frames.specs.Holders.{Accounts, Keeps, SamePool};
@@ -33,24 +33,51 @@ fn refusal_of(lack: Lack, held: &[Held], writes: &[(u32, u64)], words: usize) ->
     }
 }
 
-// Takes the room for fresh pages and writes those that have none.
+// How many written pages of one call are written where they are. The pages past these get new contents.
+const IN_PLACE: u32 = 256;
+
+// How many new pages of one call are inserted one by one. More are merged into the list of pages.
+const INSERTED: usize = 8;
+
+// Room to merge fresh pages through, where many of them are new.
+fn spare_room(
+    held: &Vec<Held>,
+    fresh: &[Held],
+    writes: &[(u32, u64)],
+    words: usize,
+) -> Result<Vec<Held>, Memory>
+    requires sorted { IsSorted (pages_of held.now.items) }
+    requires writes { AreWrites words writes.now }
+    ensures { IfOk result (λ spare. spare.items ≡ []) }
+{
+    let alloc = *held.allocator();
+    if fresh.len() <= INSERTED || count_new(held, writes, words) <= INSERTED {
+        return Ok(Vec::new(alloc));
+    }
+    Ok(Vec::with_capacity(alloc, held.capacity())?)
+}
+
+// Takes the room for fresh pages, and to merge them through, and writes those that have none.
 fn prepare(
     held: &mut Vec<Held>,
     fresh: &Vec<Held>,
     writes: &[(u32, u64)],
     words: usize,
-) -> Result<(), Memory>
+) -> Result<Vec<Held>, Memory>
     requires sorted { IsSorted (pages_of held.old.items) }
     requires fresh { IsSorted (pages_of fresh.now.items) }
     requires writes { AreWrites words writes.now }
     ensures ok { OnOk result (pages_of held.new.items
         ≡ map (in_place writes.now (pages_of fresh.now.items)) (pages_of held.old.items)) }
+    ensures spare { IfOk result (λ spare. spare.items ≡ []) }
     ensures room { OnOk result (vec_len held.new + vec_len fresh.now ≤ vec_capacity held.new) }
     ensures err { OnErr result (pages_of held.new.items ≡ pages_of held.old.items) }
 {
     held.reserve(fresh.len())?;
+    let spare = spare_room(held, fresh, writes, words)?;
     let alloc = *held.allocator();
-    write_in_place(alloc, held, fresh, writes, words)
+    write_in_place(alloc, held, fresh, writes, words, IN_PLACE)?;
+    Ok(spare)
 }
 
 /// Writes words over the pages of one holder.
@@ -96,10 +123,10 @@ pub(crate) fn change<F: Frames>(
         give_up(pool, token, fresh);
         return Err(refusal_of(lack, held, writes, zero.len()));
     }
-    let Ok(()) = prepare(held, &fresh, writes, zero.len()) else {
+    let Ok(spare) = prepare(held, &fresh, writes, zero.len()) else {
         give_up(pool, token, fresh);
         return Err(PageRefusal::Memory);
     };
-    install(pool, token, held, fresh);
+    install(pool, token, held, fresh, spare);
     Ok(())
 }

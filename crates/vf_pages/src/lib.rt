@@ -8,9 +8,11 @@
 
 mod change;
 mod content;
+mod copies;
 mod gather;
 mod held;
 mod install;
+mod merge;
 mod paged;
 mod refusal;
 mod search;

@@ -71,3 +71,35 @@ fn short_says_how_many_pages_there_would_be(rt: HostRuntime) -> Result<(), Fail>
     assert_eq!(rt; pool.misses(&hand), 1);
     Ok(())
 }
+
+// More pages than are inserted one by one or written where they are: half of forty pages at first, then
+// all of them, twice.
+#[rattlefmt::skip]
+#[test]
+fn many_pages_are_written_at_once(rt: HostRuntime) -> Result<(), Fail> {
+    let alloc = rt.alloc();
+    let (mut pool, mut hand) = PlainPool::new(alloc, 40)?;
+    let mut paged = Paged::at_zero(alloc, &mut pool, &mut hand, zeros(alloc, 2560)?)?;
+    let half = [
+        (0, 100), (128, 101), (256, 102), (384, 103), (512, 104), (640, 105), (768, 106), (896, 107), (1024, 108),
+        (1152, 109), (1280, 110), (1408, 111), (1536, 112), (1664, 113), (1792, 114), (1920, 115), (2048, 116),
+        (2176, 117), (2304, 118), (2432, 119),
+    ];
+    paged.write_all(&mut pool, &half)?;
+    assert_eq!(rt; (paged.pages(), paged.read(128), paged.read(2432)), (20, 101, 119));
+
+    let all = [
+        (0, 200), (64, 201), (128, 202), (192, 203), (256, 204), (320, 205), (384, 206), (448, 207), (512, 208),
+        (576, 209), (640, 210), (704, 211), (768, 212), (832, 213), (896, 214), (960, 215), (1024, 216), (1088, 217),
+        (1152, 218), (1216, 219), (1280, 220), (1344, 221), (1408, 222), (1472, 223), (1536, 224), (1600, 225),
+        (1664, 226), (1728, 227), (1792, 228), (1856, 229), (1920, 230), (1984, 231), (2048, 232), (2112, 233),
+        (2176, 234), (2240, 235), (2304, 236), (2368, 237), (2432, 238), (2496, 239),
+    ];
+    paged.write_all(&mut pool, &all)?;
+    assert_eq!(rt; (paged.pages(), paged.read(64), paged.read(128), paged.read(2496)), (40, 201, 202, 239));
+    paged.write_all(&mut pool, &[(65, 1)])?;
+    paged.write_all(&mut pool, &all)?;
+    assert_eq!(rt; (paged.pages(), paged.read(65), paged.read(0), paged.read(2496)), (40, 1, 200, 239));
+    paged.give_back(&mut pool, &mut hand);
+    Ok(())
+}

@@ -7,7 +7,7 @@ use Rattle.vf_pages.proofs.Notes.{rest-then, keeps-then, pool-then, no-win-then}
 use Rattle.vf_pages.proofs.Frames.{pages-last, occurs-last, rises-last}
 use Rattle.vf_pages.proofs.Puts.{put-rises, put-occurs, puts-snoc}
 use Rattle.vf_pages.proofs.Goes.{owned-has}
-use Rattle.vf_pages.proofs.install.install.Goals as goal
+use Rattle.vf_pages.proofs.install.put_pages.Goals as goal
 
 pub release_old-requires-clause-there : goal.release_old-requires-clause-there
 release_old-requires-clause-there g c = λ o is.

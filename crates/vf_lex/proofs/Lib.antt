@@ -1,0 +1,8 @@
+pub mod NameLemmas
+pub mod ReaderLemmas
+pub mod PlaceLemmas
+pub mod TextLemmas
+pub mod ReadLemmas
+pub mod Once
+pub mod Wholes
+pub mod Some

@@ -1,0 +1,120 @@
+-- A text is read in one way.
+use Rattle.std.proofs.Common.{◌≡◌, ℕ, ◌<◌, ◌≤◌, List, ◌++◌, length, take, drop, Some, ap, sym, subst, ◌∙◌, arith}
+use Rattle.std.proofs.lemmas.Bool.{both_ways}
+use Rattle.vf_base.specs.declared.names.Place.{Place}
+use Rattle.vf_lexeme.specs.Laws.{BeginsOnce, PassesOnce}
+use Rattle.vf_lex.specs.declared.fault.LexFault.{LexFault}
+use Rattle.vf_lex.specs.declared.fault.LexKind.TheVariants.{MacroDepth}
+use Rattle.vf_lex.specs.declared.macro_text.Stands.{Stands}
+use Rattle.vf_lex.specs.declared.macro_text.Stands.TheVariants.{Free}
+use Rattle.vf_lex.specs.declared.spot.Spot.{Spot}
+use Rattle.vf_lex.specs.Around.{Around, End, Ended, Stopped, is_taken, with_macro}
+use Rattle.vf_lex.specs.Directives.{Effect, Goes, Defines, Uses, Stops}
+use Rattle.vf_lex.specs.Elements.{taken_effect, passed_effect, Does, taken, passed}
+use Rattle.vf_lex.specs.MacroText.{shown, Spells, ends as spells_ends, goes as spells_goes}
+use Rattle.vf_lex.specs.Places.{moved, nested, before}
+use Rattle.vf_lex.specs.Reads.{fault_at, Reads, ends, goes, defines, uses, use_stops, too_deep, stops}
+
+spells_once : {stands : Stands} {bytes : List ℕ} {one other rest more : List ℕ} → Spells stands bytes one rest
+    → Spells stands bytes other more → (one ≡ other) × (rest ≡ more)
+spells_once (spells_ends e a b) (spells_ends f c d) = (a ∙ sym c, b ∙ sym d)
+spells_once (spells_ends e a b) (spells_goes piece more f s c) = absurd cc
+spells_once (spells_goes piece more e s a) (spells_ends f c d) = absurd cc
+spells_once {bytes} {more = behind} (spells_goes piece one e s a) (spells_goes piece_2 two f t b) =
+    let same : piece_2 ≡ piece = cc in
+    let u : Spells piece.stands (drop piece.bytes bytes) two behind = subst
+    (λ p. Spells p.stands (drop p.bytes bytes) two behind) same t in
+    let once = spells_once s u in (
+      a ∙ ap (λ m. shown piece.joins (take piece.bytes bytes) ++ m) once.0
+          ∙ sym (b ∙ ap (λ p. shown p.joins (take p.bytes bytes) ++ two) same),
+      once.1,
+    )
+
+module _ (begins : BeginsOnce) (passes : PassesOnce) where
+  does_once : (place : Place) (now : Around) (text : List ℕ) (one other : Effect) → Does place now text one
+      → Does place now text other → one ≡ other
+  does_once place now text one other (taken seen t b e) (taken seen_2 _ c f) = e
+      ∙ ap (taken_effect place now) (begins text seen seen_2 b c) ∙ sym f
+  does_once place now text one other (taken seen t b e) (passed seen_2 u c f) = absurd (both_ways (is_taken now.conditions) u t)
+  does_once place now text one other (passed seen t b e) (taken seen_2 u c f) = absurd (both_ways (is_taken now.conditions) t u)
+  does_once place now text one other (passed seen t b e) (passed seen_2 _ c f) = e
+      ∙ ap (passed_effect place now) (passes text seen seen_2 b c) ∙ sym f
+
+  -- how the reading goes on behind the use of a macro
+  data AfterUse (spot : Spot) (now : Around) (text body rest : List ℕ) (end : End) : Type 0 where
+    used : (next : Around) → spot.depth < 16 → Reads (nested spot) now body (Ended next)
+        → Reads (moved spot (before text rest)) next rest end → AfterUse spot now text body rest end
+    stopped : (fault : LexFault) → spot.depth < 16 → Reads (nested spot) now body (Stopped fault) → end ≡ Stopped fault
+        → AfterUse spot now text body rest end
+    deep : 16 ≤ spot.depth → end ≡ Stopped (fault_at MacroDepth spot) → AfterUse spot now text body rest end
+
+  -- how the reading goes on behind an element of this effect
+  abbrev Follows : Spot → Around → List ℕ → End → Effect → Type 0
+  Follows spot now text end (Goes next rest) = Reads (moved spot (before text rest)) next rest end
+  Follows spot now text end (Defines name bytes) =
+      (body : List ℕ) × (rest : List ℕ) × Spells Free bytes body rest
+      × Reads (moved spot (before text rest)) (with_macro now name (Some body)) rest end
+  Follows spot now text end (Uses body rest) = AfterUse spot now text body rest end
+  Follows spot now text end (Stops kind) = end ≡ Stopped (fault_at kind spot)
+
+  follows : (spot : Spot) (now : Around) (text : List ℕ) (end : End) (effect : Effect) → 0 < length text
+      → Does spot.place now text effect → Reads spot now text end
+      → Follows spot now text end effect
+  follows spot now text end effect some d (ends none is) = absurd (omega (arith, some, none))
+  follows spot now text end effect some d (goes next rest _ e r) = subst (λ f. Follows spot now text end f)
+      (does_once spot.place now text _ _ e d) r
+  follows spot now text end effect some d (defines name bytes body rest _ e s r) = subst (λ f. Follows spot now text end f)
+      (does_once spot.place now text _ _ e d) (body, rest, s, r)
+  follows spot now text end effect some d (uses body rest next _ e lt inner r) = subst (λ f. Follows spot now text end f)
+      (does_once spot.place now text _ _ e d) (used next lt inner r)
+  follows spot now text end effect some d (use_stops body rest fault _ e lt inner is) = subst
+      (λ f. Follows spot now text end f) (does_once spot.place now text _ _ e d) (stopped fault lt inner is)
+  follows spot now text end effect some d (too_deep body rest _ e deep_here is) = subst (λ f. Follows spot now text end f)
+      (does_once spot.place now text _ _ e d) (deep deep_here is)
+  follows spot now text end effect some d (stops kind _ e is) = subst (λ f. Follows spot now text end f)
+      (does_once spot.place now text _ _ e d) is
+
+  at_end : (spot : Spot) (now : Around) (text : List ℕ) (end : End) → length text ≡ 0 → Reads spot now text end → end ≡ Ended now
+  at_end spot now text end none (ends _ is) = is
+  at_end spot now text end none (goes next rest some e r) = absurd (omega (arith, some, none))
+  at_end spot now text end none (defines name bytes body rest some e s r) = absurd (omega (arith, some, none))
+  at_end spot now text end none (uses body rest next some e lt inner r) = absurd (omega (arith, some, none))
+  at_end spot now text end none (use_stops body rest fault some e lt inner is) = absurd (omega (arith, some, none))
+  at_end spot now text end none (too_deep body rest some e deep_here is) = absurd (omega (arith, some, none))
+  at_end spot now text end none (stops kind some e is) = absurd (omega (arith, some, none))
+
+  pub reads_once : {spot : Spot} {now : Around} {text : List ℕ} {one other : End} → Reads spot now text one
+      → Reads spot now text other → one ≡ other
+  reads_once {spot} {now} {text} {other} (ends none is) r = is ∙ sym (at_end spot now text other none r)
+  reads_once {spot} {now} {text} {other} (goes next rest some d r) s = reads_once r
+      (follows spot now text other (Goes next rest) some d s)
+  reads_once {spot} {now} {text} {other} (defines name bytes body rest some d t r) s =
+      let f = follows spot now text other (Defines name bytes) some d s in
+      let same = spells_once f.2 t in
+      let again : Reads (moved spot (before text rest)) (with_macro now name (Some body)) rest other =
+      subst (λ b. Reads (moved spot (before text rest)) (with_macro now name (Some b)) rest other) same.0
+      (subst (λ u. Reads (moved spot (before text u)) (with_macro now name (Some f.0)) u other) same.1 f.3) in
+      reads_once r again
+  reads_once {spot} {now} {text} {other} (uses body rest next some d lt inner r) s =
+      elim (follows spot now text other (Uses body rest) some d s) [
+        | used next_2 _ inner_2 r_2 ↦
+            let ended : Ended next ≡ Ended next_2 = reads_once inner inner_2 in
+            let same : next_2 ≡ next = cc in
+            reads_once r (subst (λ n. Reads (moved spot (before text rest)) n rest other) same r_2)
+        | stopped fault _ inner_2 is ↦ let ended : Ended next ≡ Stopped fault = reads_once inner inner_2 in absurd cc
+        | deep here is ↦ absurd (omega (arith, here, lt))
+      ]
+  reads_once {spot} {now} {text} {other} (use_stops body rest fault some d lt inner is) s =
+      elim (follows spot now text other (Uses body rest) some d s) [
+        | used next _ inner_2 r_2 ↦ let ended : Stopped fault ≡ Ended next = reads_once inner inner_2 in absurd cc
+        | stopped fault_2 _ inner_2 is_2 ↦ let ended : Stopped fault ≡ Stopped fault_2 = reads_once inner inner_2 in is
+            ∙ ended ∙ sym is_2
+        | deep here is_2 ↦ absurd (omega (arith, here, lt))
+      ]
+  reads_once {spot} {now} {text} {other} (too_deep body rest some d here is) s =
+      elim (follows spot now text other (Uses body rest) some d s) [
+        | used next lt inner r ↦ absurd (omega (arith, here, lt))
+        | stopped fault lt inner is_2 ↦ absurd (omega (arith, here, lt))
+        | deep _ is_2 ↦ is ∙ sym is_2
+      ]
+  reads_once {spot} {now} {text} {other} (stops kind some d is) s = is ∙ sym (follows spot now text other (Stops kind) some d s)

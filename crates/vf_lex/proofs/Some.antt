@@ -1,0 +1,323 @@
+-- Each text is read to its end, or to a first fault.
+use Rattle.std.proofs.Common.{◌≡◌, ℕ, zero, suc, ◌+◌, ◌-◌, ◌<◌, ◌≤◌, Bool, true, false, not, eqb, ◌&&◌, ◌||◌, cond, List, [], ◌∷◌, ◌++◌, length, drop, Option, Some, None, Ok, Err, ◌⊎◌, inl, inr, refl, ap, arith, length-drop, length-append}
+use Rattle.std.proofs.lemmas.Bool.{cases_Bool, and_parts}
+use Rattle.vf_base.specs.declared.names.Place.{Place}
+use Rattle.vf_lexeme.specs.declared.kinds.Lexeme.TheVariants as lexemes
+use Rattle.vf_lexeme.specs.declared.kinds.TokenKind.{TokenKind}
+use Rattle.vf_lexeme.specs.declared.kinds.Passed.TheVariants as passed_kinds
+use Rattle.vf_lexeme.specs.Laws.{BeginsSome, BeginsTakes, PassesSome, PassesTakes, IsBehind}
+use Rattle.vf_lexeme.specs.Lexemes.{Seen, SeenPassing, Begins, Passes}
+use Rattle.vf_lex.specs.declared.directive.Branching.{Branching}
+use Rattle.vf_lex.specs.declared.directive.Branching.TheVariants.{Ifdef, Ifndef, Elsif, Else, Endif}
+use Rattle.vf_lex.specs.declared.directive.Directive.{Directive}
+use Rattle.vf_lex.specs.declared.directive.Directive.TheVariants.{Define, Undef, Skipped, Include, Use}
+use Rattle.vf_lex.specs.declared.fault.LexFault.{LexFault}
+use Rattle.vf_lex.specs.declared.macro_text.Piece.{Piece}
+use Rattle.vf_lex.specs.declared.macro_text.Stands.{Stands}
+use Rattle.vf_lex.specs.declared.macro_text.Stands.TheVariants.{Free}
+use Rattle.vf_lex.specs.declared.reader.Condition.{Condition}
+use Rattle.vf_lex.specs.declared.spot.Spot.{Spot}
+use Rattle.vf_lex.specs.declared.token.Token.{Token}
+use Rattle.vf_lex.specs.Around.{Around, End, Ended, Stopped, nothing_yet, is_taken, with_macro}
+use Rattle.vf_lex.specs.Directives.{Effect, Goes, Defines, Uses, Stops, branching_of, directive_of, opens, turns, turns_last, closes, branches, defines, undefines, uses, directs, directs_or_branches, directed}
+use Rattle.vf_lex.specs.Elements.{takes, taken_effect, passed_effect, Does, taken, passed}
+use Rattle.vf_lex.specs.MacroText.{line_joint, plain_piece, piece_of, behind_two, piece_at, may_join, Spells, ends as spells_ends, goes as spells_goes}
+use Rattle.vf_lex.specs.Names.{name_of, behind_name, behind_blanks, behind_line_blanks}
+use Rattle.vf_lex.specs.Places.{moved, nested, before}
+use Rattle.vf_lex.specs.Reads.{Reads, fault_at, ends, goes, defines as reads_defines, uses as reads_uses, use_stops, too_deep, stops}
+use Rattle.vf_lex.specs.Tokens.{first_spot, IsTokens, IsFirstFault, stopped, open_end, TokensAreSome}
+use Rattle.vf_lex.proofs.PlaceLemmas.{moved_depth}
+
+-- what the effect leaves to be read is at most so long
+abbrev Leaves : ℕ → Effect → Type 0
+Leaves n (Goes next rest) = length rest ≤ n
+Leaves n (Defines name bytes) = length bytes ≤ n
+Leaves n (Uses body rest) = length rest ≤ n
+Leaves n (Stops kind) = Unit {0}
+
+leaves_either : (n : ℕ) (b : Bool) (one other : Effect) → Leaves n one → Leaves n other → Leaves n (cond b one other)
+leaves_either n true one other h k = h
+leaves_either n false one other h k = k
+
+leaves_more : (m n : ℕ) (effect : Effect) → m ≤ n → Leaves m effect → Leaves n effect
+leaves_more m n (Goes next rest) h l = omega (arith, h, l)
+leaves_more m n (Defines name bytes) h l = omega (arith, h, l)
+leaves_more m n (Uses body rest) h l = omega (arith, h, l)
+leaves_more m n (Stops kind) h l = tt
+
+dropped : (k : ℕ) (bytes : List ℕ) → length (drop k bytes) ≤ length bytes
+dropped k bytes = omega (arith, length-drop k bytes)
+
+after_name : (bytes rest : List ℕ) → length rest ≤ length bytes → length (behind_name rest) ≤ length bytes
+after_name bytes rest h = omega (arith, dropped (length (name_of rest)) rest, h)
+
+turns_leaves : (n : ℕ) (now : Around) (conditions : List Condition) (bytes : List ℕ) → length bytes ≤ n
+    → Leaves n (turns now conditions bytes)
+turns_leaves n now [] bytes h = tt
+turns_leaves n now (condition ∷ outer) bytes h =
+    leaves_either n (condition.closed || eqb (length (name_of bytes)) 0) (Stops _) (Goes _ (behind_name bytes)) tt
+    (omega (arith, h, after_name bytes bytes (omega arith)))
+
+last_leaves : (n : ℕ) (now : Around) (conditions : List Condition) (rest : List ℕ) → length rest ≤ n
+    → Leaves n (turns_last now conditions rest)
+last_leaves n now [] rest h = tt
+last_leaves n now (condition ∷ outer) rest h = leaves_either n condition.closed (Stops _) (Goes _ rest) tt h
+
+closes_leaves : (n : ℕ) (now : Around) (conditions : List Condition) (rest : List ℕ) → length rest ≤ n
+    → Leaves n (closes now conditions rest)
+closes_leaves n now [] rest h = tt
+closes_leaves n now (condition ∷ outer) rest h = h
+
+opens_leaves : (n : ℕ) (wanted : Bool) (place : Place) (now : Around) (bytes : List ℕ) → length bytes ≤ n
+    → Leaves n (opens wanted place now bytes)
+opens_leaves n wanted place now bytes h =
+    leaves_either n (eqb (length (name_of bytes)) 0) (Stops _) (Goes _ (behind_name bytes)) tt
+    (omega (arith, h, after_name bytes bytes (omega arith)))
+
+branches_leaves : (branching : Branching) (place : Place) (now : Around) (bytes : List ℕ)
+    → Leaves (length bytes) (branches branching place now bytes)
+unfolding branches
+branches_leaves Ifdef place now bytes = opens_leaves (length bytes) true place now (behind_blanks bytes) (dropped _ bytes)
+branches_leaves Ifndef place now bytes = opens_leaves (length bytes) false place now (behind_blanks bytes) (dropped _ bytes)
+branches_leaves Elsif place now bytes = turns_leaves (length bytes) now now.conditions (behind_blanks bytes) (dropped _ bytes)
+branches_leaves Else place now bytes = last_leaves (length bytes) now now.conditions bytes (omega arith)
+branches_leaves Endif place now bytes = closes_leaves (length bytes) now now.conditions bytes (omega arith)
+
+defines_leaves : (n : ℕ) (bytes : List ℕ) → length bytes ≤ n → Leaves n (defines bytes)
+defines_leaves n bytes h =
+    leaves_either n (eqb (length (name_of bytes)) 0) (Stops _) _ tt
+    (leaves_either n _ (Stops _) (Defines (name_of bytes) (behind_name bytes)) tt
+    (omega (arith, h, after_name bytes bytes (omega arith))))
+
+undefines_leaves : (n : ℕ) (now : Around) (bytes : List ℕ) → length bytes ≤ n → Leaves n (undefines now bytes)
+undefines_leaves n now bytes h =
+    leaves_either n (eqb (length (name_of bytes)) 0) (Stops _) (Goes _ (behind_name bytes)) tt
+    (omega (arith, h, after_name bytes bytes (omega arith)))
+
+uses_leaves : (n : ℕ) (text : Option (List ℕ)) (rest : List ℕ) → length rest ≤ n → Leaves n (uses text rest)
+uses_leaves n None rest h = tt
+uses_leaves n (Some text) rest h = h
+
+directs_leaves : (directive : Directive) (now : Around) (name bytes : List ℕ)
+    → Leaves (length bytes) (directs directive now name bytes)
+unfolding directs
+directs_leaves Define now name bytes = defines_leaves (length bytes) (behind_line_blanks bytes) (dropped _ bytes)
+directs_leaves Undef now name bytes = undefines_leaves (length bytes) now (behind_blanks bytes) (dropped _ bytes)
+directs_leaves Include now name bytes = tt
+directs_leaves Skipped now name bytes = dropped _ bytes
+directs_leaves Use now name bytes = uses_leaves (length bytes) (now.macros name) bytes (omega arith)
+
+chosen_leaves : (branching : Option Branching) (taken_here : Bool) (place : Place) (now : Around) (name bytes : List ℕ)
+    → Leaves (length bytes) (directs_or_branches branching taken_here place now name bytes)
+chosen_leaves (Some branching) taken_here place now name bytes = branches_leaves branching place now bytes
+chosen_leaves None true place now name bytes = directs_leaves (directive_of name) now name bytes
+chosen_leaves None false place now name bytes = omega arith
+
+directed_leaves : (taken_here : Bool) (place : Place) (now : Around) (bytes : List ℕ)
+    → Leaves (length bytes) (directed taken_here place now bytes)
+unfolding directed
+directed_leaves taken_here place now bytes =
+    leaves_more (length (behind_name bytes)) (length bytes) _ (dropped _ bytes)
+    (chosen_leaves (branching_of (name_of bytes)) taken_here place now (name_of bytes) (behind_name bytes))
+
+takes_leaves : (n : ℕ) (place : Place) (now : Around) (kind : TokenKind) (rest : List ℕ) → length rest ≤ n
+    → Leaves n (takes place now kind rest)
+unfolding takes
+takes_leaves n place now kind rest h = leaves_either n _ (Goes _ rest) (Stops _) h tt
+
+shorter : (text rest : List ℕ) → IsBehind text rest → length rest + 1 ≤ length text
+shorter text rest b = omega (arith, ap length b.1, length-append b.0 rest, b.2)
+
+-- ---- the text of a macro
+
+none_or : (n : ℕ) → (n ≡ 0) ⊎ (0 < n)
+none_or zero = inl refl
+none_or (suc n) = inr (omega arith)
+
+less_or : (m n : ℕ) → (m < n) ⊎ (n ≤ m)
+less_or m n = elim (none_or (n - m)) [ inl e ↦ inr (omega (arith, e)) | inr h ↦ inl (omega (arith, h)) ]
+
+some_piece : (o : Option Stands) (stands : Stands) (first : ℕ) → 0 < (piece_of o stands first).bytes
+some_piece None stands first = omega arith
+some_piece (Some behind) stands first = omega arith
+
+-- a piece, if there is one, has bytes
+abbrev HasBytes : Option Piece → Type 0
+HasBytes None = Unit {0}
+HasBytes (Some piece) = 0 < piece.bytes
+
+bytes_either : (b : Bool) (piece : Piece) → 0 < piece.bytes → HasBytes (cond b None (Some piece))
+bytes_either true piece h = tt
+bytes_either false piece h = h
+
+plain_bytes : (stands : Stands) (bytes : List ℕ) → HasBytes (plain_piece stands bytes)
+unfolding plain_piece
+plain_bytes stands [] = tt
+plain_bytes stands (first ∷ []) = bytes_either (eqb first 10) _ (some_piece None stands first)
+plain_bytes stands (first ∷ second ∷ rest) = bytes_either (eqb first 10) _
+    (some_piece (behind_two stands first second rest) stands first)
+
+some_joint : (n : ℕ) → not (eqb n 0) ≡ true → 0 < n
+some_joint zero e = absurd cc
+some_joint (suc n) e = omega arith
+
+piece_bytes : (stands : Stands) (bytes : List ℕ) → HasBytes (piece_at stands bytes)
+unfolding piece_at
+piece_bytes stands bytes = elim (cases_Bool (may_join stands && not (eqb (line_joint bytes) 0))) [
+  | inl joins ↦ rw joins (some_joint (line_joint bytes) (and_parts (may_join stands) (not (eqb (line_joint bytes) 0)) joins).1)
+  | inr plain ↦ rw plain (plain_bytes stands bytes)
+]
+
+no_piece : (stands : Stands) → piece_at stands [] ≡ None
+unfolding piece_at plain_piece line_joint
+no_piece stands = elim (cases_Bool (may_join stands)) [ inl is ↦ rw is refl | inr other ↦ rw other refl ]
+
+-- the text of a macro that the bytes begin with, and its rest
+abbrev Spelled : Stands → List ℕ → Type 0
+Spelled stands bytes = (text : List ℕ) × (rest : List ℕ) × Spells stands bytes text rest × (length rest ≤ length bytes)
+
+spelled_by : (n : ℕ) (stands : Stands) (bytes : List ℕ) (piece : Option Piece) → piece_at stands bytes ≡ piece
+    → HasBytes piece → length bytes ≤ suc n
+    → ((s : Stands) (b : List ℕ) → length b ≤ n → Spelled s b) → 0 < length bytes → Spelled stands bytes
+spelled_by n stands bytes None e h fits on some = ([], bytes, spells_ends e refl refl, omega arith)
+spelled_by n stands bytes (Some piece) e h fits on some =
+    let less = length-drop piece.bytes bytes in
+    let more = on piece.stands (drop piece.bytes bytes) (omega (arith, less, h, fits, some)) in
+    (_, more.1, spells_goes piece more.0 e more.2 refl, omega (arith, less, more.3))
+
+spelled_none : (stands : Stands) (bytes : List ℕ) → length bytes ≡ 0 → Spelled stands bytes
+spelled_none stands [] e = ([], [], spells_ends (no_piece stands) refl refl, omega arith)
+spelled_none stands (b ∷ bytes) e = absurd (omega (arith, e))
+
+spelled_some : (n : ℕ) (stands : Stands) (bytes : List ℕ) → length bytes ≤ n → Spelled stands bytes
+spelled_some zero stands bytes h = spelled_none stands bytes (omega (arith, h))
+spelled_some (suc n) stands bytes h = elim (none_or (length bytes)) [
+  | inl none ↦ spelled_none stands bytes none
+  | inr some ↦ spelled_by n stands bytes (piece_at stands bytes) refl (piece_bytes stands bytes) h
+      (λ s b fits. spelled_some n s b fits) some
+]
+
+-- ---- an element
+
+record Found (place : Place) (now : Around) (text : List ℕ) : Type 0 where
+  effect : Effect
+  does : Does place now text effect
+  leaves : Leaves (length text - 1) effect
+
+module _ (begins : BeginsSome) (begins_takes : BeginsTakes) (passes : PassesSome) (passes_takes : PassesTakes) where
+  taken_leaves : (place : Place) (now : Around) (text : List ℕ) (seen : Seen) → Begins text seen
+      → Leaves (length text - 1) (taken_effect place now seen)
+  taken_leaves place now text (Ok (lexemes.Blank, rest)) b = omega
+      (arith, shorter text rest (begins_takes text lexemes.Blank rest b))
+  taken_leaves place now text (Ok (lexemes.Token kind, rest)) b =
+      takes_leaves _ place now kind rest (omega (arith, shorter text rest (begins_takes text (lexemes.Token kind) rest b)))
+  taken_leaves place now text (Ok (lexemes.Directive, rest)) b =
+      leaves_more (length rest) (length text - 1) _
+      (omega (arith, shorter text rest (begins_takes text lexemes.Directive rest b))) (directed_leaves true place now rest)
+  taken_leaves place now text (Err fault) b = tt
+
+  passed_leaves : (place : Place) (now : Around) (text : List ℕ) (seen : SeenPassing) → Passes text seen
+      → Leaves (length text - 1) (passed_effect place now seen)
+  passed_leaves place now text (Ok (passed_kinds.Text, rest)) b = omega
+      (arith, shorter text rest (passes_takes text passed_kinds.Text rest b))
+  passed_leaves place now text (Ok (passed_kinds.Directive, rest)) b =
+      leaves_more (length rest) (length text - 1) _
+      (omega (arith, shorter text rest (passes_takes text passed_kinds.Directive rest b)))
+      (directed_leaves false place now rest)
+  passed_leaves place now text (Err fault) b = tt
+
+  found : (place : Place) (now : Around) (text : List ℕ) → 0 < length text → Found place now text
+  found place now text some = elim (cases_Bool (is_taken now.conditions)) [
+    | inl is ↦ let b = begins text some
+        in record {
+          effect = taken_effect place now b.0;
+          does = taken b.0 is b.1 refl;
+          leaves = taken_leaves place now text
+              b.0 b.1;
+        }
+    | inr other ↦ let b = passes text some
+        in record {
+          effect = passed_effect place now b.0;
+          does = passed b.0 other b.1 refl;
+          leaves = passed_leaves place now
+              text b.0 b.1;
+        }
+  ]
+
+  -- ---- the text, by how deep uses can still nest and by its length
+
+  abbrev Ends : Spot → Around → List ℕ → Type 0
+  Ends spot now text = (end : End) × Reads spot now text end
+
+  -- the text of a macro that is used here is read to an end
+  abbrev Inner : ℕ → Type 0
+  Inner k = (spot : Spot) (now : Around) (body : List ℕ) → 16 ≤ spot.depth + k → spot.depth < 16 → Ends (nested spot) now body
+
+  use_ends : (spot : Spot) (now : Around) (text body rest : List ℕ) → 0 < length text
+      → Does spot.place now text (Uses body rest) → spot.depth < 16
+      → Ends (nested spot) now body → ((next : Around) → Ends (moved spot (before text rest)) next rest) → Ends spot now text
+  use_ends spot now text body rest some d lt (Ended next, inner) on = let e = on next
+      in (e.0, reads_uses body rest next some d lt inner e.1)
+  use_ends spot now text body rest some d lt (Stopped fault, inner)
+      on = (Stopped fault, use_stops body rest fault some d lt inner refl)
+
+  behind_ends : (k : ℕ) → Inner k → (spot : Spot) (now : Around) (text : List ℕ) (effect : Effect) → 16 ≤ spot.depth + k
+      → 0 < length text → Does spot.place now text effect
+      → Leaves (length text - 1) effect
+      → ((after : Spot) (next : Around) (rest : List ℕ) → after.depth ≡ spot.depth → length rest ≤ length text - 1
+      → Ends after next rest) → Ends spot now text
+  behind_ends k inner spot now text (Goes next rest) deep some d h on =
+      let e = on (moved spot (before text rest)) next rest (moved_depth spot (before text rest)) h
+      in (e.0, goes next rest some d e.1)
+  behind_ends k inner spot now text (Defines name bytes) deep some d h on =
+      let s = spelled_some (length bytes) Free bytes (omega arith) in
+      let e = on (moved spot (before text s.1)) (with_macro now name (Some s.0)) s.1 (moved_depth spot (before text s.1))
+      (omega (arith, h, s.3)) in
+      (e.0, reads_defines name bytes s.0 s.1 some d s.2 e.1)
+  behind_ends k inner spot now text (Uses body rest) deep some d h on =
+      elim (less_or (spot.depth) 16) [
+        | inl lt ↦ use_ends spot now text body rest some d lt (inner spot now body deep lt)
+            (λ next. on (moved spot (before text rest)) next rest (moved_depth spot (before text rest)) h)
+        | inr here ↦ (Stopped (fault_at _ spot), too_deep body rest some d here refl)
+      ]
+  behind_ends k inner spot now text (Stops kind) deep some d h on = (Stopped (fault_at kind spot), stops kind some d refl)
+
+  row : (k : ℕ) → Inner k → (n : ℕ) (spot : Spot) (now : Around) (text : List ℕ) → 16 ≤ spot.depth + k → length text ≤ n
+      → Ends spot now text
+  row k inner zero spot now text deep h = (Ended now, ends (omega (arith, h)) refl)
+  row k inner (suc n) spot now text deep h =
+      elim (none_or (length text)) [
+        | inl none ↦ (Ended now, ends none refl)
+        | inr some ↦
+            let f = found spot.place now text some in
+            behind_ends k inner spot now text f.effect deep some f.does f.leaves
+            (λ after next rest same less. row k inner n after next rest (omega (arith, deep, same))
+            (omega (arith, less, h, some)))
+      ]
+
+  rows : (k : ℕ) → Inner k
+  rows zero spot now body deep lt = absurd (omega (arith, deep, lt))
+  rows (suc k) spot now body deep lt = row k (rows k) (length body) (nested spot) now body (omega (arith, deep)) (omega arith)
+
+  whole : (text : List ℕ) → Ends first_spot nothing_yet text
+  whole text = row 16 (rows 16) (length text) first_spot nothing_yet text (omega arith) (omega arith)
+
+  -- a list is empty, or has a last item
+  last_of : (conditions : List Condition)
+      → (conditions ≡ []) ⊎ ((inner : List Condition) × (outer : Condition) × (conditions ≡ inner ++ outer ∷ []))
+  last_of [] = inl refl
+  last_of (condition ∷ more) = elim (last_of more) [
+    | inl none ↦ inr ([], condition, ap (λ (cs : List Condition). condition ∷ cs) none)
+    | inr l ↦ inr (condition ∷ l.0, l.1, ap (λ (cs : List Condition). condition ∷ cs) l.2)
+  ]
+
+  ended : (text : List ℕ) → Ends first_spot nothing_yet text
+      → ((tokens : List Token) × IsTokens text tokens) ⊎ ((fault : LexFault) × IsFirstFault text fault)
+  ended text (Stopped fault, reads) = inr (fault, stopped reads)
+  ended text (Ended last, reads) = elim (last_of last.conditions) [
+    | inl none ↦ inl (last.tokens, record { last = last; reads = reads; closed = none; tokens_are = refl })
+    | inr l ↦ inr (_, open_end last l.0 l.1 reads l.2 refl)
+  ]
+
+  pub tokens_are_some : TokensAreSome
+  tokens_are_some text = ended text (whole text)

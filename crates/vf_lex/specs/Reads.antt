@@ -1,0 +1,42 @@
+-- A text is read to its end, or to the first fault (docs/LANGUAGE.md, "Text and tokens").
+use Rattle.std.specs.Prelude.{◌≡◌, ℕ, ◌<◌, ◌≤◌, List, length, Some}
+use Rattle.vf_lex.specs.declared.fault.LexFault.{LexFault}
+use Rattle.vf_lex.specs.declared.fault.LexKind.{LexKind}
+use Rattle.vf_lex.specs.declared.fault.LexKind.TheVariants.{MacroDepth}
+use Rattle.vf_lex.specs.declared.macro_text.Stands.TheVariants.{Free}
+use Rattle.vf_lex.specs.declared.spot.Spot.{Spot}
+use Rattle.vf_lex.specs.Around.{Around, End, Ended, Stopped, with_macro}
+use Rattle.vf_lex.specs.Directives.{Goes, Defines, Uses, Stops}
+use Rattle.vf_lex.specs.Elements.{Does}
+use Rattle.vf_lex.specs.MacroText.{Spells}
+use Rattle.vf_lex.specs.Places.{moved, nested, before}
+
+abbrev pub fault_at : LexKind → Spot → LexFault
+fault_at kind spot = record { kind = kind; place = spot.place }
+
+-- the text is read from a spot on with this around it, and ends so; at most 16 uses of macros nest
+pub data Reads : Spot → Around → List ℕ → End → Type 0 where
+  ends : {spot : Spot} {now : Around} {text : List ℕ} {end : End} → length text ≡ 0 → end ≡ Ended now → Reads spot now text end
+  goes : {spot : Spot} {now : Around} {text : List ℕ} {end : End} (next : Around) (rest : List ℕ) → 0 < length text
+      → Does spot.place now text (Goes next rest)
+      → Reads (moved spot (before text rest)) next rest end
+      → Reads spot now text end
+  defines : {spot : Spot} {now : Around} {text : List ℕ} {end : End} (name bytes body rest : List ℕ) → 0 < length text
+      → Does spot.place now text (Defines name bytes) → Spells Free bytes body rest
+      → Reads (moved spot (before text rest)) (with_macro now name (Some body)) rest end
+      → Reads spot now text end
+  uses : {spot : Spot} {now : Around} {text : List ℕ} {end : End} (body rest : List ℕ) (next : Around) → 0 < length text
+      → Does spot.place now text (Uses body rest) → spot.depth < 16
+      → Reads (nested spot) now body (Ended next)
+      → Reads (moved spot (before text rest)) next rest end
+      → Reads spot now text end
+  use_stops : {spot : Spot} {now : Around} {text : List ℕ} {end : End} (body rest : List ℕ) (fault : LexFault) → 0 < length text
+      → Does spot.place now text (Uses body rest) → spot.depth < 16
+      → Reads (nested spot) now body (Stopped fault) → end ≡ Stopped fault
+      → Reads spot now text end
+  too_deep : {spot : Spot} {now : Around} {text : List ℕ} {end : End} (body rest : List ℕ) → 0 < length text
+      → Does spot.place now text (Uses body rest) → 16 ≤ spot.depth → end ≡ Stopped (fault_at MacroDepth spot)
+      → Reads spot now text end
+  stops : {spot : Spot} {now : Around} {text : List ℕ} {end : End} (kind : LexKind) → 0 < length text
+      → Does spot.place now text (Stops kind) → end ≡ Stopped (fault_at kind spot)
+      → Reads spot now text end
