@@ -64,6 +64,7 @@ fn accepts_what_the_rules_allow(rt: HostRuntime) -> Result<(), Fail> {
     Ok(())
 }
 
+#[rattlefmt::skip]
 #[test]
 fn refuses_an_outer_value_of_another_form(rt: HostRuntime) -> Result<(), Fail> {
     for (plan, kind) in [
@@ -73,37 +74,16 @@ fn refuses_an_outer_value_of_another_form(rt: HostRuntime) -> Result<(), Fail> {
         ("[]", PlanKind::Shape),
         ("5", PlanKind::Shape),
         (r#"{"version":1}"#, PlanKind::Shape),
-        (
-            r#"{"nodes":[{"name":"t","text":"","test":true}]}"#,
-            PlanKind::Shape,
-        ),
+        (r#"{"nodes":[{"name":"t","text":"","test":true}]}"#, PlanKind::Shape),
         (r#"{"version":1,"nodes":[]}"#, PlanKind::Shape),
         (r#"{"version":1,"nodes":{}}"#, PlanKind::Shape),
-        (
-            r#"{"version":1.0,"nodes":[{"name":"t","text":"","test":true}]}"#,
-            PlanKind::Shape,
-        ),
-        (
-            r#"{"version":3,"nodes":[{"name":"t","text":"","test":true}]}"#,
-            PlanKind::Shape,
-        ),
-        (
-            r#"{"version":0,"nodes":[{"name":"t","text":"","test":true}]}"#,
-            PlanKind::Shape,
-        ),
-        (
-            r#"{"version":1,"nodes":[{"name":"t","text":"","test":true}],"more":1}"#,
-            PlanKind::Shape,
-        ),
+        (r#"{"version":1.0,"nodes":[{"name":"t","text":"","test":true}]}"#, PlanKind::Shape),
+        (r#"{"version":3,"nodes":[{"name":"t","text":"","test":true}]}"#, PlanKind::Shape),
+        (r#"{"version":0,"nodes":[{"name":"t","text":"","test":true}]}"#, PlanKind::Shape),
+        (r#"{"version":1,"nodes":[{"name":"t","text":"","test":true}],"more":1}"#, PlanKind::Shape),
         (r#"{"version":3,"nodes":[5]}"#, PlanKind::Shape),
-        (
-            r#"{"version":1,"nodes":[{"name":"t","text":""}]}"#,
-            PlanKind::NoTest,
-        ),
-        (
-            r#"{"version":2,"nodes":[{"name":"t","text":"","test":false}]}"#,
-            PlanKind::NoTest,
-        ),
+        (r#"{"version":1,"nodes":[{"name":"t","text":""}]}"#, PlanKind::NoTest),
+        (r#"{"version":2,"nodes":[{"name":"t","text":"","test":false}]}"#, PlanKind::NoTest),
     ] {
         assert_eq!(rt; fault_of(rt.alloc(), plan), Some((kind, None)), "at {plan}");
     }
@@ -115,6 +95,7 @@ fn refuses_an_outer_value_of_another_form(rt: HostRuntime) -> Result<(), Fail> {
     Ok(())
 }
 
+#[rattlefmt::skip]
 #[test]
 fn refuses_the_first_node_at_fault(rt: HostRuntime) -> Result<(), Fail> {
     for (nodes, kind, node) in [
@@ -123,114 +104,34 @@ fn refuses_the_first_node_at_fault(rt: HostRuntime) -> Result<(), Fail> {
         (r#"{"name":5,"text":"","test":true}"#, PlanKind::Shape, 0),
         (r#"{"name":"","text":"","test":true}"#, PlanKind::Shape, 0),
         (r#"{"name":"1a","text":"","test":true}"#, PlanKind::Shape, 0),
-        (
-            r#"{"name":"a b","text":"","test":true}"#,
-            PlanKind::Shape,
-            0,
-        ),
+        (r#"{"name":"a b","text":"","test":true}"#, PlanKind::Shape, 0),
         (r#"{"name":"t","test":true}"#, PlanKind::Shape, 0),
-        (
-            r#"{"name":"t","text":"","hex":"","test":true}"#,
-            PlanKind::Shape,
-            0,
-        ),
+        (r#"{"name":"t","text":"","hex":"","test":true}"#, PlanKind::Shape, 0),
         (r#"{"name":"t","text":5,"test":true}"#, PlanKind::Shape, 0),
         (r#"{"name":"t","hex":null,"test":true}"#, PlanKind::Shape, 0),
         (r#"{"name":"t","text":"","test":1}"#, PlanKind::Shape, 0),
-        (
-            r#"{"name":"t","text":"","test":true,"more":1}"#,
-            PlanKind::Shape,
-            0,
-        ),
-        (
-            r#"{"name":"t","text":"","test":true,"after":null}"#,
-            PlanKind::Shape,
-            0,
-        ),
-        (
-            r#"{"name":"t","text":"","test":true,"after":"s"}"#,
-            PlanKind::Shape,
-            0,
-        ),
-        (
-            r#"{"name":"t","text":"","test":true,"expect":"","expect_text":""}"#,
-            PlanKind::Shape,
-            0,
-        ),
-        (
-            r#"{"name":"t","text":"","test":true,"turns":5}"#,
-            PlanKind::Shape,
-            0,
-        ),
-        (
-            r#"{"name":"t","text":"","test":true,"output":5}"#,
-            PlanKind::Shape,
-            0,
-        ),
+        (r#"{"name":"t","text":"","test":true,"more":1}"#, PlanKind::Shape, 0),
+        (r#"{"name":"t","text":"","test":true,"after":null}"#, PlanKind::Shape, 0),
+        (r#"{"name":"t","text":"","test":true,"after":"s"}"#, PlanKind::Shape, 0),
+        (r#"{"name":"t","text":"","test":true,"expect":"","expect_text":""}"#, PlanKind::Shape, 0),
+        (r#"{"name":"t","text":"","test":true,"turns":5}"#, PlanKind::Shape, 0),
+        (r#"{"name":"t","text":"","test":true,"output":5}"#, PlanKind::Shape, 0),
         (r#"{"name":"t","hex":"a","test":true}"#, PlanKind::BadHex, 0),
-        (
-            r#"{"name":"t","hex":"0g","test":true}"#,
-            PlanKind::BadHex,
-            0,
-        ),
-        (
-            r#"{"name":"t","text":"","test":true,"expect":"0"}"#,
-            PlanKind::BadHex,
-            0,
-        ),
-        (
-            r#"{"name":"t","text":"x","test":true,"after":"s"}"#,
-            PlanKind::UnknownParent,
-            0,
-        ),
-        (
-            r#"{"name":"t","text":"x","test":true,"after":"t"}"#,
-            PlanKind::UnknownParent,
-            0,
-        ),
-        (
-            r#"{"name":"t","text":"x","test":true,"after":"1"}"#,
-            PlanKind::UnknownParent,
-            0,
-        ),
-        (
-            r#"{"name":"a","text":"x","after":"b","test":true},{"name":"b","text":"x"}"#,
-            PlanKind::UnknownParent,
-            0,
-        ),
-        (
-            r#"{"name":"a","text":"x"},{"name":"a","text":"x"}"#,
-            PlanKind::DuplicateName,
-            1,
-        ),
-        (
-            r#"{"name":"a","text":"x"},{"name":"b","text":"","after":"a"}"#,
-            PlanKind::Shape,
-            1,
-        ),
+        (r#"{"name":"t","hex":"0g","test":true}"#, PlanKind::BadHex, 0),
+        (r#"{"name":"t","text":"","test":true,"expect":"0"}"#, PlanKind::BadHex, 0),
+        (r#"{"name":"t","text":"x","test":true,"after":"s"}"#, PlanKind::UnknownParent, 0),
+        (r#"{"name":"t","text":"x","test":true,"after":"t"}"#, PlanKind::UnknownParent, 0),
+        (r#"{"name":"t","text":"x","test":true,"after":"1"}"#, PlanKind::UnknownParent, 0),
+        (r#"{"name":"a","text":"x","after":"b","test":true},{"name":"b","text":"x"}"#, PlanKind::UnknownParent, 0),
+        (r#"{"name":"a","text":"x"},{"name":"a","text":"x"}"#, PlanKind::DuplicateName, 1),
+        (r#"{"name":"a","text":"x"},{"name":"b","text":"","after":"a"}"#, PlanKind::Shape, 1),
         // two faults at once
-        (
-            r#"{"name":"a","text":"x"},{"name":"a","text":"x","after":"q"}"#,
-            PlanKind::DuplicateName,
-            1,
-        ),
-        (
-            r#"{"name":"a","text":"x"},{"name":"a","hex":"x"}"#,
-            PlanKind::BadHex,
-            1,
-        ),
+        (r#"{"name":"a","text":"x"},{"name":"a","text":"x","after":"q"}"#, PlanKind::DuplicateName, 1),
+        (r#"{"name":"a","text":"x"},{"name":"a","hex":"x"}"#, PlanKind::BadHex, 1),
         (r#"{"name":"a","hex":"x","after":"q"}"#, PlanKind::BadHex, 0),
         (r#"{"name":"1","hex":"x"}"#, PlanKind::Shape, 0),
-        (
-            r#"{"name":"a","hex":"x"},{"name":"1","text":"x"}"#,
-            PlanKind::BadHex,
-            0,
-        ),
-        (
-            r#"{"name":"a","text":"x","after":"q"},5"#,
-            PlanKind::UnknownParent,
-            0,
-        ),
+        (r#"{"name":"a","hex":"x"},{"name":"1","text":"x"}"#, PlanKind::BadHex, 0),
+        (r#"{"name":"a","text":"x","after":"q"},5"#, PlanKind::UnknownParent, 0),
     ] {
         let plan = version_one(rt.alloc(), nodes)?;
         assert_eq!(rt;
@@ -242,6 +143,7 @@ fn refuses_the_first_node_at_fault(rt: HostRuntime) -> Result<(), Fail> {
     Ok(())
 }
 
+#[rattlefmt::skip]
 #[test]
 fn keeps_limits_in_their_ranges(rt: HostRuntime) -> Result<(), Fail> {
     for (limits, good) in [
@@ -288,6 +190,7 @@ fn chain(alloc: Global, nodes: u32, bytes: usize) -> Result<String, AllocError> 
     Ok(text)
 }
 
+#[rattlefmt::skip]
 #[test]
 fn keeps_to_lengths_and_depth(rt: HostRuntime) -> Result<(), Fail> {
     for (nodes, bytes, fault) in [

@@ -77,11 +77,11 @@ fn tell<E: Sink>(alloc: Global, err: &mut E, refusal: Refusal) -> u8
         Err(fault) => match plan_line(alloc, fault) {
             Ok(line) => {
                 let _ = put_all(err, &line);
-                4
+                refusal.status()
             }
             Err(_) => {
                 let _ = put_all(err, memory_line());
-                8
+                Refusal::Memory.status()
             }
         },
     }

@@ -148,16 +148,11 @@ fn failed_counts() -> &'static str {
     "tests 1 completed 1 met 0 failed 1 pages 0 memory 0 turns 20\n"
 }
 
+#[rattlefmt::skip]
 #[test]
 fn a_test_has_an_expectation_and_limits_of_its_own(rt: HostRuntime) -> Result<(), Fail> {
     for (version, members, status, line, counts) in [
-        (
-            1u32,
-            "\"hex\":\"68690A\",\"expect\":\"68690a\"",
-            0u8,
-            "finish:0 turns 20 bytes 3 out 68690a expect met",
-            met_counts(),
-        ),
+        (1u32, "\"hex\":\"68690A\",\"expect\":\"68690a\"", 0u8, "finish:0 turns 20 bytes 3 out 68690a expect met", met_counts()),
         (
             1,
             "\"text\":\"hi\\n\",\"expect_text\":\"hx\\n\"",
@@ -198,6 +193,7 @@ fn a_test_has_an_expectation_and_limits_of_its_own(rt: HostRuntime) -> Result<()
     Ok(())
 }
 
+#[rattlefmt::skip]
 #[test]
 fn a_plan_that_is_none_tells_its_first_fault(rt: HostRuntime) -> Result<(), Fail> {
     for (plan, line) in [
@@ -210,23 +206,11 @@ fn a_plan_that_is_none_tells_its_first_fault(rt: HostRuntime) -> Result<(), Fail
             "vfarm: plan: 3 DuplicateName at node 1\n",
         ),
         (r#"{"version":1,"nodes":["#, "vfarm: plan: 1 NotJson\n"),
-        (
-            r#"{"version":1,"nodes":[{"name":"t","text":"hi\n","test":true,"turns":5}]}"#,
-            "vfarm: plan: 2 Shape at node 0\n",
-        ),
+        (r#"{"version":1,"nodes":[{"name":"t","text":"hi\n","test":true,"turns":5}]}"#, "vfarm: plan: 2 Shape at node 0\n"),
         (r#"{"version":1,"nodes":[]}"#, "vfarm: plan: 2 Shape\n"),
-        (
-            r#"{"version":1,"nodes":[{"name":"t","text":""}]}"#,
-            "vfarm: plan: 8 NoTest\n",
-        ),
-        (
-            r#"{"version":1,"nodes":[{"name":"t","hex":"0","test":true}]}"#,
-            "vfarm: plan: 7 BadHex at node 0\n",
-        ),
-        (
-            r#"{"version":1,"nodes":[{"name":"t","text":"","test":true},{"name":"u","text":""}]}"#,
-            "vfarm: plan: 11 NotBuilt\n",
-        ),
+        (r#"{"version":1,"nodes":[{"name":"t","text":""}]}"#, "vfarm: plan: 8 NoTest\n"),
+        (r#"{"version":1,"nodes":[{"name":"t","hex":"0","test":true}]}"#, "vfarm: plan: 7 BadHex at node 0\n"),
+        (r#"{"version":1,"nodes":[{"name":"t","text":"","test":true},{"name":"u","text":""}]}"#, "vfarm: plan: 11 NotBuilt\n"),
     ] {
         let files = files(rt.alloc(), echo(), plan)?;
         let told = told(rt.alloc(), &["d.v", "p.json"], files, 0, 0, 4096)?;
