@@ -1,5 +1,5 @@
 -- Looking pages up in a list with rising numbers.
-use Rattle.std.proofs.Common.{◌≡◌, ◌≢◌, ℕ, zero, suc, ◌+◌, ◌<◌, ◌≤◌, Bool, true, ◌&&◌, ◌||◌, ◌==◌, nat_le, nat_lt, List, [], ◌∷◌, length, get_or, refl, sym, ap, ◌∙◌, arith, ne_eqb, eq-eqb, leb-true, ltb-true, le-leb, lt-ltb, ⊎_elim}
+use Rattle.std.proofs.Common.{◌≡◌, ◌≢◌, ℕ, zero, suc, ◌+◌, ◌<◌, ◌≤◌, Bool, true, ◌&&◌, ◌||◌, ◌==◌, nat_le, nat_lt, List, [], ◌∷◌, ◌++◌, length, get_or, refl, sym, ap, ◌∙◌, arith, ne_eqb, eq-eqb, leb-true, ltb-true, le-leb, lt-ltb, ⊎_elim}
 use Rattle.std.specs.Prelude.{Some, None}
 use Rattle.std.proofs.lemmas.Bool.{cases_eq, and_parts, and_from}
 use Rattle.vf_frames.specs.Numbers.{has, rises}
@@ -23,6 +23,14 @@ rises-less low high limit (x ∷ xs) h r =
     rises-from low limit x xs (omega (arith, parts.0)) parts.1 parts.2
 
 -- so many numbers fit below the limit
+-- a number at or above the bound of the others stands behind them
+pub rises-last : (low limit above x : ℕ) (xs : List ℕ) → rises low limit xs ≡ true → low ≤ limit → limit ≤ x → x < above → rises low above (xs ++ x ∷ []) ≡ true
+rises-last low limit above x [] r h k l = rises-from low above x [] (omega arith) l refl
+rises-last low limit above x (y ∷ ys) r h k l =
+    let parts = rises-parts low limit y ys r in
+    rises-from low above y (ys ++ x ∷ []) parts.0 (omega (arith, parts.1))
+    (rises-last (y + 1) limit above x ys parts.2 (omega (arith, parts.1)) k l)
+
 pub rises-length : (low limit : ℕ) (xs : List ℕ) → rises low limit xs ≡ true → low ≤ limit → low + length xs ≤ limit
 rises-length low limit [] r h = omega arith
 rises-length low limit (x ∷ xs) r h =

@@ -33,8 +33,9 @@ fn refusal_of(lack: Lack, held: &[Held], writes: &[(u32, u64)], words: usize) ->
     }
 }
 
-// How many written pages of one call are written where they are. The pages past these get new contents.
-const IN_PLACE: u32 = 256;
+// How many written pages of one call are written where they are: as many as a state has at most. The
+// pages past these get new contents.
+const IN_PLACE: u32 = 32768;
 
 // How many new pages of one call are inserted one by one. More are merged into the list of pages.
 const INSERTED: usize = 8;

@@ -9,7 +9,7 @@ ghost use Rattle.vf_pages.specs.Writes.{AreWrites};
 ghost use Rattle.vf_pages.specs.Puts.{put, puts, frame_count};
 ghost use Rattle.vf_pages.specs.InPlace.{in_place};
 
-use crate::content::{write_words, written_words};
+use crate::content::write_words;
 use crate::copies::write_copies;
 use crate::held::Held;
 use crate::merge::merge;
@@ -20,9 +20,9 @@ use std::sync::Arc;
 use vf_base::Memory;
 use vf_frames::Frames;
 
-/// Writes the pages that have no fresh one where they are, or gives them new contents: a page whose
-/// content another holder still reads, and each written page past the first `depth`. No page is written
-/// before all contents are there, so after want of memory nothing has changed.
+/// Writes the pages that have no fresh one where they are. From the first whose content another holder
+/// still reads, and past the first `depth`, they get new contents. No page is written before all
+/// contents are there, so after want of memory nothing has changed.
 pub(crate) fn write_in_place(
     alloc: Global,
     held: &mut [Held],
@@ -52,17 +52,11 @@ pub(crate) fn write_in_place(
     let Some((slot, later)) = behind.split_first_mut() else {
         return Ok(());
     };
-    match Arc::get_mut(&mut slot.content) {
-        Some(content) => {
-            write_in_place(alloc, later, fresh, more, words, depth)?;
-            write_words(content, page, own);
-        }
-        None => {
-            let content = Arc::new(alloc, written_words(&slot.content, page, own))?;
-            write_in_place(alloc, later, fresh, more, words, depth)?;
-            slot.content = content;
-        }
-    }
+    let Some(content) = Arc::get_mut(&mut slot.content) else {
+        return write_copies(alloc, held, fresh, writes, words);
+    };
+    write_in_place(alloc, later, fresh, more, words, depth)?;
+    write_words(content, page, own);
     Ok(())
 }
 

@@ -82,10 +82,12 @@ impl<F: Frames> Paged<F> {
     }
 
     /// Writes words at rising addresses. A page that is not held gets a claimed frame, and so does one
-    /// whose frame another holder has; any other page keeps its frame. Such a page is written where it
-    /// is, if it is among the first 256 that the call writes, and else gets a new content. No page is
-    /// changed before all contents are made and all frames claimed, so after a refusal words and pages
-    /// are as before.
+    /// whose frame another holder has; any other page keeps its frame and is written where it is. No
+    /// page is changed before all contents are made and all frames claimed, so after a refusal words and
+    /// pages are as before.
+    ///
+    /// Memory is taken for pages that are new and for contents that another holder reads, and else for
+    /// the pages past the first 32,768 of one call, which is more than a state has.
     ///
     /// `Short` comes where a claim found no frame. Where the pool accounts for this holder and others it
     /// comes exactly where fewer frames are free than the writes need.

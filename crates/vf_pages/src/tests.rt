@@ -1,5 +1,6 @@
-ghost use Rattle.std.specs.Prelude.{◌≡◌, ◌<◌, length, IfOk};
+ghost use Rattle.std.specs.Prelude.{◌≡◌, ◌*◌, ◌<◌, ◌≤◌, length, IfOk};
 ghost use Rattle.std.specs.Arc.{arc_value};
+ghost use Rattle.vf_pages.specs.Writes.{AreWrites};
 
 use crate::{PageRefusal, Paged};
 use std::alloc::Global;
@@ -72,8 +73,7 @@ fn short_says_how_many_pages_there_would_be(rt: HostRuntime) -> Result<(), Fail>
     Ok(())
 }
 
-// More pages than are inserted one by one or written where they are: half of forty pages at first, then
-// all of them, twice.
+// More pages than are inserted one by one: half of forty pages at first, then all of them, twice.
 #[rattlefmt::skip]
 #[test]
 fn many_pages_are_written_at_once(rt: HostRuntime) -> Result<(), Fail> {
@@ -100,6 +100,45 @@ fn many_pages_are_written_at_once(rt: HostRuntime) -> Result<(), Fail> {
     paged.write_all(&mut pool, &[(65, 1)])?;
     paged.write_all(&mut pool, &all)?;
     assert_eq!(rt; (paged.pages(), paged.read(65), paged.read(0), paged.read(2496)), (40, 1, 200, 239));
+    paged.give_back(&mut pool, &mut hand);
+    Ok(())
+}
+
+// A write of the value to the first word of each page.
+fn on_each_page(alloc: Global, pages: u32, value: u64) -> Result<Vec<(u32, u64)>, Memory>
+    requires { pages ≤ 32768 }
+    ensures { IfOk result (λ writes. AreWrites (64 * pages) writes.items) }
+{
+    let mut writes = Vec::new(alloc);
+    for page in 0..pages {
+        writes.push((64 * page, value))?;
+    }
+    Ok(writes)
+}
+
+// As many pages as a state can have are written where they are by one call, and then by a call after a
+// fork, which gives each of them a new content.
+#[test]
+fn the_largest_state_is_written_at_once(rt: HostRuntime) -> Result<(), Fail> {
+    let alloc = rt.alloc();
+    let (mut pool, mut hand) = PlainPool::new(alloc, 65536)?;
+    let zero = zeros(alloc, 2097152)?;
+    let mut paged = Paged::at_zero(alloc, &mut pool, &mut hand, zero)?;
+    paged.write_all(&mut pool, &on_each_page(alloc, 32768, 1)?)?;
+    paged.write_all(&mut pool, &on_each_page(alloc, 32768, 2)?)?;
+    assert_eq!(rt;
+        (paged.pages(), paged.read(0), paged.read(2097088)),
+        (32768, 2, 2)
+    );
+
+    let mut fork = paged.fork(&mut pool, &mut hand)?;
+    fork.write_all(&mut pool, &on_each_page(alloc, 32768, 3)?)?;
+    assert_eq!(rt;
+        (fork.pages(), fork.read(0), fork.read(2097088)),
+        (32768, 3, 3)
+    );
+    assert_eq!(rt; (paged.read(0), paged.read(2097088)), (2, 2));
+    fork.give_back(&mut pool, &mut hand);
     paged.give_back(&mut pool, &mut hand);
     Ok(())
 }

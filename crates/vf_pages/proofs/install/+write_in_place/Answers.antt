@@ -34,8 +34,8 @@ returns-in_default-kept_place-clause-ok t c =
     (λ e. e ∙ ap (λ ws. map (in_place ws fresh) held) c.split_page.ensures.beyond ∙ in_place-skip p c.args.writes.now fresh held c.in_default-kept_place.ensures.none)
     c.write_in_place.ensures.ok
 
-pub write_in_place-requires-in-Some-get_mut : goal.write_in_place-requires-in-Some-get_mut
-write_in_place-requires-in-Some-get_mut t c =
+pub write_in_place-requires-2 : goal.write_in_place-requires-2
+write_in_place-requires-2 t c =
     let first = c.in-Some.first.now in
     let p : ℕ = first.0 / 64 in
     let more = c.split_page.ensures.beyond in (
@@ -51,25 +51,8 @@ write_words-requires t c =
     let p : ℕ = c.in-Some.first.now.0 / 64 in
     subst (λ ws. AllOn p ws) (sym c.split_page.ensures.own) (AllOn-own p c.args.writes.now)
 
-pub written_words-requires : goal.written_words-requires
-written_words-requires t c =
-    let p : ℕ = c.in-Some.first.now.0 / 64 in
-    subst (λ ws. AllOn p ws) (sym c.split_page.ensures.own) (AllOn-own p c.args.writes.now)
-
-pub write_in_place-requires-in-None : goal.write_in_place-requires-in-None
-write_in_place-requires-in-None t c =
-    let first = c.in-Some.first.now in
-    let p : ℕ = first.0 / 64 in
-    let more = c.split_page.ensures.beyond in (
-      omega (arith, c.decreases, first-shorter c.args.writes.now first c.in-Some.ensures.value, ap length more),
-      (
-        sorted-cut c.args.held.now _ _ c.in-Some-split_first_mut.later.now c.in-Some-split_first_mut.slot.now c.split_at_mut-behind.ensures.value c.in-Some-split_first_mut.ensures.cases.0 c.requires.sorted,
-        (c.requires.fresh, ap (λ xs. rises 0 c.args.words (map address xs)) more ∙ beyond-rises p 0 c.args.words c.args.writes.now c.requires.writes),
-      ),
-    )
-
-pub returns-in_ok-write_in_place-in-Some-get_mut-clause-ok : goal.returns-in_ok-write_in_place-in-Some-get_mut-clause-ok
-returns-in_ok-write_in_place-in-Some-get_mut-clause-ok t c =
+pub returns-clause-ok : goal.returns-clause-ok
+returns-clause-ok t c =
     let first = c.in-Some.first.now in
     let p : ℕ = first.0 / 64 in
     let fresh = pages_of c.args.fresh.now in
@@ -78,24 +61,8 @@ returns-in_ok-write_in_place-in-Some-get_mut-clause-ok t c =
     let front = c.split_at_mut-behind.result.0.now in
     let kept = c.in-Some-kept_place.ensures.some in
     let content = c.write_words.ensures ∙ ap₂ (λ ws xs. after ws p xs) c.split_page.ensures.own c.in-Some-get_mut.ensures.value in
-    let rest = c.in_ok-write_in_place-in-Some-get_mut.ensures.ok ∙ ap (λ ws. map (in_place ws fresh) (pages_of later)) c.split_page.ensures.beyond in
+    let rest = c.in_ok-write_in_place.ensures.ok ∙ ap (λ ws. map (in_place ws fresh) (pages_of later)) c.split_page.ensures.beyond in
     map-append page_of front _
     ∙ in_place-done c.args.words c.args.writes.now first fresh c.args.held.now front c.split_at_mut-behind.result.1.now later slot c.in-Some-kept_place.place c.write_words.new.words _
-    c.requires.writes c.in-Some.ensures.value c.requires.sorted c.split_at_mut-behind.ensures.value c.in-Some-split_first_mut.ensures.cases.0 c.split_at_mut-behind.ensures.front_len
-    kept.0 kept.1 content rest
-
-pub returns-in_ok-write_in_place-in-None-clause-ok : goal.returns-in_ok-write_in_place-in-None-clause-ok
-returns-in_ok-write_in_place-in-None-clause-ok t c =
-    let first = c.in-Some.first.now in
-    let p : ℕ = first.0 / 64 in
-    let fresh = pages_of c.args.fresh.now in
-    let slot = c.in-Some-split_first_mut.slot.now in
-    let later = c.in-Some-split_first_mut.later.now in
-    let front = c.split_at_mut-behind.result.0.now in
-    let kept = c.in-Some-kept_place.ensures.some in
-    let content = c.in_ok-content-in-None.ensures.ok ∙ c.written_words.ensures ∙ ap₂ (λ ws xs. after ws p xs) c.split_page.ensures.own c.deref.ensures in
-    let rest = c.in_ok-write_in_place-in-None.ensures.ok ∙ ap (λ ws. map (in_place ws fresh) (pages_of later)) c.split_page.ensures.beyond in
-    map-append page_of front _
-    ∙ in_place-done c.args.words c.args.writes.now first fresh c.args.held.now front c.split_at_mut-behind.result.1.now later slot c.in-Some-kept_place.place _ _
     c.requires.writes c.in-Some.ensures.value c.requires.sorted c.split_at_mut-behind.ensures.value c.in-Some-split_first_mut.ensures.cases.0 c.split_at_mut-behind.ensures.front_len
     kept.0 kept.1 content rest
