@@ -28,13 +28,9 @@ fn number(rt: &impl Abort, width: u32, signed: bool, number: u128) -> Fours {
     Fours::new(128, signed, number, 0).resize(width, signed)
 }
 
+#[rattlefmt::skip]
 fn parts(value: Fours) -> (u32, bool, u128, u128) {
-    (
-        value.width(),
-        value.is_signed(),
-        value.ones(),
-        value.unknown(),
-    )
+    (value.width(), value.is_signed(), value.ones(), value.unknown())
 }
 
 fn letter(bit: Bit) -> u8 {
@@ -106,6 +102,7 @@ fn comparisons_of_bits(rt: HostRuntime) {
 }
 
 /// Worked values of the binary operators. A mark of true makes both operands signed.
+#[rattlefmt::skip]
 #[test]
 fn binary_operators(rt: HostRuntime) {
     let rows = [
@@ -159,11 +156,7 @@ fn binary_operators(rt: HostRuntime) {
         let b = four(&rt, right, signed);
         let marked = signed && want.len() > 1;
         let got = binary(&rt, a, op, b);
-        assert_eq!(rt;
-            parts(got),
-            parts(four(&rt, want, marked)),
-            "{op:?} {left} {right}"
-        );
+        assert_eq!(rt; parts(got), parts(four(&rt, want, marked)), "{op:?} {left} {right}");
     }
 }
 
@@ -184,6 +177,7 @@ fn binary(rt: &impl Abort, left: Fours, op: BinaryOp, right: Fours) -> Fours {
 }
 
 /// Worked values of the unary operators.
+#[rattlefmt::skip]
 #[test]
 fn unary_operators(rt: HostRuntime) {
     let rows = [
@@ -213,15 +207,12 @@ fn unary_operators(rt: HostRuntime) {
     ];
     for (op, operand, want) in rows {
         let got = four(&rt, operand, true).unary(op);
-        assert_eq!(rt;
-            parts(got),
-            parts(four(&rt, want, want.len() > 1)),
-            "{op:?} {operand}"
-        );
+        assert_eq!(rt; parts(got), parts(four(&rt, want, want.len() > 1)), "{op:?} {operand}");
     }
 }
 
 /// Numbers of 32 and of 128 bits: the sums that wrap, -1, the greatest product.
+#[rattlefmt::skip]
 #[test]
 fn wide_numbers(rt: HostRuntime) {
     let all = u128::MAX;
@@ -249,11 +240,7 @@ fn wide_numbers(rt: HostRuntime) {
         let a = number(&rt, width, signed, left);
         let b = number(&rt, width, signed, right);
         let got = binary(&rt, a, op, b);
-        assert_eq!(rt;
-            parts(got),
-            (width, signed, want, 0),
-            "{op:?} {left} {right}"
-        );
+        assert_eq!(rt; parts(got), (width, signed, want, 0), "{op:?} {left} {right}");
     }
     let minus_one = number(&rt, 128, true, 1).neg();
     assert_eq!(rt; parts(minus_one), (128, true, all, 0));
@@ -272,6 +259,7 @@ fn joined(rt: &impl Abort, high: Fours, low: Fours) -> Fours {
 }
 
 /// Selects, joins and changes of width, at the edges too.
+#[rattlefmt::skip]
 #[test]
 fn parts_of_values(rt: HostRuntime) {
     let value = four(&rt, "10zx", true);
@@ -287,11 +275,7 @@ fn parts_of_values(rt: HostRuntime) {
         (i64::MIN, "xxxx"),
     ];
     for (low, want) in selects {
-        assert_eq!(rt;
-            parts(value.select(low, 4)),
-            parts(four(&rt, want, false)),
-            "from {low}"
-        );
+        assert_eq!(rt; parts(value.select(low, 4)), parts(four(&rt, want, false)), "from {low}");
     }
     let resizes = [
         (true, 6, "1110zx"),
@@ -301,49 +285,29 @@ fn parts_of_values(rt: HostRuntime) {
     ];
     for (signed, width, want) in resizes {
         let marked = value.resize(4, signed);
-        assert_eq!(rt;
-            parts(marked.resize(width, false)),
-            parts(four(&rt, want, false)),
-            "to {width}"
-        );
+        assert_eq!(rt; parts(marked.resize(width, false)), parts(four(&rt, want, false)), "to {width}");
     }
-    assert_eq!(rt;
-        parts(four(&rt, "z01", true).resize(5, true)),
-        parts(four(&rt, "zzz01", true))
-    );
-    assert_eq!(rt;
-        parts(joined(&rt, value, four(&rt, "01", true))),
-        parts(four(&rt, "10zx01", false))
-    );
+    assert_eq!(rt; parts(four(&rt, "z01", true).resize(5, true)), parts(four(&rt, "zzz01", true)));
+    assert_eq!(rt; parts(joined(&rt, value, four(&rt, "01", true))), parts(four(&rt, "10zx01", false)));
     let wide = number(&rt, 128, false, u128::MAX);
     let across = wide.select(127, 3);
     assert_eq!(rt; parts(across), parts(four(&rt, "xx1", false)));
     let half = number(&rt, 64, false, 5);
-    assert_eq!(rt;
-        parts(joined(&rt, half, half)),
-        (128, false, (5 << 64) + 5, 0)
-    );
+    assert_eq!(rt; parts(joined(&rt, half, half)), (128, false, (5 << 64) + 5, 0));
     assert_eq!(rt; four(&rt, "0z10", false).truth(), Bit::One);
     assert_eq!(rt; four(&rt, "0000", false).truth(), Bit::Zero);
     assert_eq!(rt; parts(Fours::all_x(3, true)), parts(four(&rt, "xxx", true)));
-    assert_eq!(rt;
-        parts(Fours::new(3, true, 5, 2)),
-        parts(four(&rt, "1z1", true))
-    );
+    assert_eq!(rt; parts(Fours::new(3, true, 5, 2)), parts(four(&rt, "1z1", true)));
 }
 
 /// `?:`: the arm of a known condition, and the merge of both where it is not known.
+#[rattlefmt::skip]
 #[test]
 fn conditional_operator(rt: HostRuntime) {
     let yes = four(&rt, "0110", false);
     let no = four(&rt, "0011", false);
     assert_eq!(rt; yes.width(), no.width());
-    let rows = [
-        ("10", "0110"),
-        ("00", "0011"),
-        ("0z", "0x1x"),
-        ("x0", "0x1x"),
-    ];
+    let rows = [("10", "0110"), ("00", "0011"), ("0z", "0x1x"), ("x0", "0x1x")];
     for (condition, want) in rows {
         let got = match four(&rt, condition, false).truth() {
             Bit::One => yes,

@@ -3,6 +3,12 @@ use Rattle.std.proofs.Common.{◌≡◌, ℕ, zero, suc, ◌<◌, ◌==◌, ◌&
 use Rattle.std.specs.List.{list_all}
 use Rattle.std.specs.Result.{IfOk, IfErr}
 use Rattle.std.proofs.lemmas.Bool.{cases_Bool, and_parts, and_from, or_cases, or_from, or_parts, ne_eqb, eqb-true, eqb-false, both_ways, leb-true, lt-leb, not-true, not_from_false, false_from_ne_true, true_from_ne_false, agree_below, agree_below_at, cases_lt}
+use Rattle.vf_fours.specs.Bits.{FourState}
+use Rattle.vf_number.specs.declared.fault.NumberFault.{NumberFault}
+use Rattle.vf_number.specs.Runs.{run, behind}
+use Rattle.vf_number.specs.Numbers.{Read, IsNumber, begins_number, BeginsNumber}
+use Rattle.vf_number.specs.Reading.{Shows, number_at}
+use Rattle.vf_number.proofs.CallerLemmas.{run_parts, run_all, behind_ends, run_of, behind_of, number_sound, number_complete, number_begins, behind_shorter}
 use Rattle.vf_lexeme.specs.declared.kinds.TokenKind.TheVariants as kinds
 use Rattle.vf_lexeme.specs.declared.kinds.Lexeme.{Lexeme}
 use Rattle.vf_lexeme.specs.declared.kinds.Lexeme.TheVariants as lexemes
@@ -12,17 +18,14 @@ use Rattle.vf_lexeme.specs.Bytes.{is_digit, is_letter, is_blank, begins_name, is
 use Rattle.vf_lexeme.specs.Words.{IsName, is_reserved}
 use Rattle.vf_lexeme.specs.Strings.{IsQuoted}
 use Rattle.vf_lexeme.specs.Signs.{is_sign, IsSignAt}
-use Rattle.vf_lexeme.specs.Numbers.{IsNumber}
 use Rattle.vf_lexeme.specs.Lexemes.{Seen, is_stray, Begins, blank, skipped, open_comment, name, word, escaped, system, number, bad_number, quoted, open_string, sign, directive, dollar, stray, Refuses}
 use Rattle.vf_lexeme.specs.Reading as reading
-use Rattle.vf_lexeme.specs.Reading.{run, behind, opens_skip, behind_skip, inside_at, sign_length, number_at, begins_number, marked, lexeme_at, decoded, Fails, Gives, Read, ◌>>=◌}
-use Rattle.vf_lexeme.proofs.Runs.{run_parts, run_all, behind_ends, run_of, behind_of}
+use Rattle.vf_lexeme.specs.Reading.{opens_skip, behind_skip, inside_at, sign_length, marked, lexeme_at, decoded, Fails, Gives}
 use Rattle.vf_lexeme.proofs.PlainNames.{first_in_name, is_name_front}
 use Rattle.vf_lexeme.proofs.Skipping.{skip_sound, open_sound, skip_complete, open_complete, opens_not, opens_sound}
 use Rattle.vf_lexeme.proofs.Quoting.{string_sound, string_complete}
 use Rattle.vf_lexeme.proofs.Signing.{begins_other, sign_begins, sign_printable, no_sign, sign_sound, sign_complete, stray_sound}
-use Rattle.vf_lexeme.proofs.Taking.{behind_shorter, begins_takes}
-use Rattle.vf_lexeme.proofs.Numbering.{number_sound, number_complete, number_front}
+use Rattle.vf_lexeme.proofs.Taking.{begins_takes}
 
 -- ---- first bytes
 
@@ -153,13 +156,13 @@ quoted_sound : (text : List ℕ) (o : Option (List ℕ × List ℕ)) → inside_
 quoted_sound text (Some p) h = quoted text (decoded 0 p.0) p.1 (string_sound text p.0 p.1 h) refl refl
 quoted_sound text None h = open_string text (string_none text h) refl refl
 
-numbered_by : (text : List ℕ) (r : Read) → IsNumber text r → Begins text (r >>= λ r. Ok (lexemes.Token (kinds.Number r.0), r.1))
+numbered_by : (text : List ℕ) (r : Read) → IsNumber text r → Begins text (reading.seen_number r)
 numbered_by text (Ok r) is = number r.0 r.1 is refl
 numbered_by text (Err fault) is = bad_number fault is refl
 
 numbered_sound : (first : ℕ) (rest : List ℕ) → begins_number first ≡ true → Begins (first ∷ rest) (reading.numbered (first ∷ rest))
 unfolding reading.numbered
-numbered_sound first rest h = numbered_by (first ∷ rest) (number_at (first ∷ rest)) (number_sound first rest h)
+numbered_sound first rest h = numbered_by (first ∷ rest) (number_at (first ∷ rest)) (number_sound (first ∷ rest) h)
 
 signed_sound : (first : ℕ) (rest : List ℕ) → begins_other first ≡ true → opens_skip (first ∷ rest) ≡ false
     → Begins (first ∷ rest) (reading.signed (first ∷ rest))
@@ -266,17 +269,16 @@ named_complete (b ∷ more) rest is ends =
     ∙ rw (run_of is_name_byte (b ∷ more) rest all ends, behind_of is_name_byte (b ∷ more) rest all ends) refl
 
 at_number : (b : ℕ) (rest : List ℕ) → begins_number b ≡ true
-    → lexeme_at (b ∷ rest) ≡ (number_at (b ∷ rest) >>= λ r. Ok (lexemes.Token (kinds.Number r.0), r.1))
+    → lexeme_at (b ∷ rest) ≡ reading.seen_number (number_at (b ∷ rest))
 unfolding lexeme_at marked reading.numbered
 at_number b rest h = rw (number_no_blank b h, number_no_name b h, number_no_skip b rest h, h) refl
 
-seen_number : (text : List ℕ) (r : Read) → IsNumber text r
-    → lexeme_at text ≡ (r >>= λ r. Ok (lexemes.Token (kinds.Number r.0), r.1))
-seen_number text r is =
-    let f = number_front text r is in
-    ap lexeme_at f.is ∙ at_number f.first f.more f.begins
-    ∙ ap (λ t. number_at t >>= λ r. Ok (lexemes.Token (kinds.Number r.0), r.1)) (sym f.is)
-    ∙ ap (λ n. n >>= λ r. Ok (lexemes.Token (kinds.Number r.0), r.1)) (number_complete text r is)
+number_first : (text : List ℕ) → BeginsNumber text → lexeme_at text ≡ reading.seen_number (number_at text)
+number_first [] h = absurd h
+number_first (b ∷ rest) h = at_number b rest h
+
+number_seen : (text : List ℕ) (r : Read) → IsNumber text r → lexeme_at text ≡ reading.seen_number r
+number_seen text r is = number_first text (number_begins text r is) ∙ ap reading.seen_number (number_complete text r is)
 
 at_quote : (rest : List ℕ) → lexeme_at (34 ∷ rest) ≡ reading.seen_string (inside_at false rest)
 unfolding lexeme_at marked reading.quoted opens_skip
@@ -446,8 +448,8 @@ lexeme_complete text seen (escaped n rest all ends e s) =
     (behind_of is_no_blank n rest all ends) ∙ sym s
 lexeme_complete text seen (system first more rest h all ends e s) = ap lexeme_at e ∙ at_dollar (first ∷ (more ++ rest))
     ∙ system_complete first more rest h all ends ∙ sym s
-lexeme_complete text seen (number v rest is s) = seen_number text (Ok (v, rest)) is ∙ sym s
-lexeme_complete text seen (bad_number fault is s) = seen_number text (Err fault) is ∙ sym s
+lexeme_complete text seen (number v rest is s) = number_seen text (Ok (v, rest)) is ∙ sym s
+lexeme_complete text seen (bad_number fault is s) = number_seen text (Err fault) is ∙ sym s
 lexeme_complete text seen (quoted behind_quote value rest q e s) =
     let p = string_complete behind_quote value rest q in
     ap lexeme_at e ∙ at_quote behind_quote ∙ ap reading.seen_string p.1
@@ -463,6 +465,12 @@ pub begins_once : (text : List ℕ) (seen other : Seen) → Begins text seen →
 begins_once text seen other a b = sym (lexeme_complete text seen a) ∙ lexeme_complete text other b
 
 -- ---- what the code answers
+
+-- the number that stands at the front of a text is the one that is read there
+pub number_shown : {A : Type 0} (view : A → FourState × List ℕ) (text : List ℕ) (r : Result A NumberFault)
+    → IfOk r (λ x. IsNumber text (Ok (view x))) → IfErr r (λ e. IsNumber text (Err e)) → Shows view r (number_at text)
+number_shown view text (Ok x) found refused = number_complete text (Ok (view x)) found
+number_shown view text (Err e) found refused = number_complete text (Err e) refused
 
 pub found_from : {A : Type 0} (view : A → Lexeme × List ℕ) (text : List ℕ) (r : Result A LexemeFault) → 0 < length text
     → Gives view r (lexeme_at text) → IfOk r (λ x. Begins text (Ok (view x)))

@@ -1,13 +1,8 @@
-pub mod Runs
 pub mod PlainNames
-pub mod Decimals
 pub mod Skipping
 pub mod Stringing
-pub mod BitLists
-pub mod Digits
 pub mod Quoting
 pub mod Signing
-pub mod Numbering
 pub mod Lexing
 pub mod Taking
 pub mod Passing

@@ -2,6 +2,9 @@
 use Rattle.std.proofs.Common.{◌≡◌, ℕ, ◌<◌, ◌==◌, true, false, eqb, List, [], ◌∷◌, ◌++◌, length, Option, Some, None, Result, Ok, Err, refl, sym, ap, ◌∙◌, inl, inr, subst, arith}
 use Rattle.std.specs.Result.{IfOk, IfErr}
 use Rattle.std.proofs.lemmas.Bool.{cases_Bool, eqb-true, eqb-false, ne_eqb, false_from_ne_true}
+use Rattle.vf_number.specs.Runs.{run, behind}
+use Rattle.vf_number.specs.Reading.{Shows}
+use Rattle.vf_number.proofs.CallerLemmas.{run_parts, run_all, behind_ends, behind_of, behind_shorter}
 use Rattle.vf_lexeme.specs.declared.kinds.Passed.{Passed}
 use Rattle.vf_lexeme.specs.declared.kinds.Passed.TheVariants as passed
 use Rattle.vf_lexeme.specs.declared.kinds.OpenFault.{OpenFault}
@@ -10,11 +13,10 @@ use Rattle.vf_lexeme.specs.Bytes.{is_no_blank}
 use Rattle.vf_lexeme.specs.Strings.{IsQuoted}
 use Rattle.vf_lexeme.specs.Lexemes.{SeenPassing, Passes, pass_directive, pass_skipped, pass_open_comment, pass_quoted, pass_open_string, pass_escaped, pass_other}
 use Rattle.vf_lexeme.specs.Reading as reading
-use Rattle.vf_lexeme.specs.Reading.{run, behind, opens_skip, behind_skip, inside_at, decoded, passed_at, Shows}
-use Rattle.vf_lexeme.proofs.Runs.{run_parts, run_all, behind_ends, behind_of}
+use Rattle.vf_lexeme.specs.Reading.{opens_skip, behind_skip, inside_at, decoded, passed_at}
 use Rattle.vf_lexeme.proofs.Skipping.{skip_sound, open_sound, skip_complete, open_complete, opens_not, opens_sound}
 use Rattle.vf_lexeme.proofs.Quoting.{string_sound, string_complete}
-use Rattle.vf_lexeme.proofs.Taking.{behind_shorter, passes_takes}
+use Rattle.vf_lexeme.proofs.Taking.{passes_takes}
 use Rattle.vf_lexeme.proofs.Lexing.{string_none, skip_front, skip_byte_cases}
 
 -- ---- soundness

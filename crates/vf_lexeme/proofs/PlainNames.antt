@@ -2,10 +2,10 @@
 use Rattle.std.proofs.Common.{◌≡◌, ℕ, ◌==◌, ◌||◌, ◌≤◌, true, false, List, [], ◌∷◌, ◌++◌, length, get_or, refl, ap, sym, subst, ◌∙◌, inl, inr, arith}
 use Rattle.std.specs.List.{list_all}
 use Rattle.std.proofs.lemmas.Bool.{or_cases, or_left, or_right, and_from, both_ways}
+use Rattle.vf_number.specs.Runs.{run, behind}
+use Rattle.vf_number.proofs.CallerLemmas.{run_all, run_parts, behind_ends, run_of, behind_of}
 use Rattle.vf_lexeme.specs.Bytes.{is_letter, is_digit, begins_name, is_name_byte, Ends}
 use Rattle.vf_lexeme.specs.Words.{IsName, IsNameAt, named, unnamed}
-use Rattle.vf_lexeme.specs.Reading.{run, behind}
-use Rattle.vf_lexeme.proofs.Runs.{run_all, run_parts, behind_ends, run_of, behind_of}
 
 pub first_in_name : (first : ℕ) → begins_name first ≡ true → is_name_byte first ≡ true
 first_in_name first h = elim (or_cases (is_letter first) (first == 95) h) [

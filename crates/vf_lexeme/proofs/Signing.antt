@@ -5,10 +5,11 @@ use Rattle.std.specs.Str.{bytes_eq}
 use Rattle.std.proofs.lemmas.Bool.{cases_Bool, and_parts, or_cases, both_ways, leb-true, not-true, or_parts, agree_below, agree_below_at}
 use Rattle.std.proofs.lemmas.List.{take-append-drop, length-take-le}
 use Rattle.std.proofs.lemmas.Slice.Eq.{bytes_eq-Decides}
+use Rattle.vf_number.specs.Numbers.{begins_number}
 use Rattle.vf_lexeme.specs.Bytes.{is_blank, begins_name}
 use Rattle.vf_lexeme.specs.Signs.{signs, is_sign, OpensSkip, IsSignAt}
 use Rattle.vf_lexeme.specs.Lexemes.{is_stray}
-use Rattle.vf_lexeme.specs.Reading.{short_length, sign_length, begins_number}
+use Rattle.vf_lexeme.specs.Reading.{short_length, sign_length}
 
 -- ---- what holds of every sign
 

@@ -3,10 +3,11 @@ use Rattle.std.proofs.Common.{◌≡◌, ◌≢◌, ℕ, ◌<◌, ◌&&◌, ◌|
 use Rattle.std.specs.List.{list_all}
 use Rattle.std.proofs.lemmas.Bool.{cases_Bool, and_parts, or_cases, eqb-true, eq-eqb, both_ways, not-true}
 use Rattle.std.proofs.lemmas.List.{length-append}
+use Rattle.vf_number.specs.Runs.{run, behind}
+use Rattle.vf_number.proofs.CallerLemmas.{run_parts, run_all, behind_ends, behind_of}
 use Rattle.vf_lexeme.specs.Bytes.{is_no_newline, Ends, Lacks}
 use Rattle.vf_lexeme.specs.Signs.{is_close, OpensSkip, opens_line, opens_block, opens_attribute, IsSkipped, line, block, attribute, IsOpen, open_block, open_attribute}
-use Rattle.vf_lexeme.specs.Reading.{begins_with, opens_skip, after_star, behind_star, behind_skip, or_else, run, behind}
-use Rattle.vf_lexeme.proofs.Runs.{run_parts, run_all, behind_ends, behind_of}
+use Rattle.vf_lexeme.specs.Reading.{begins_with, opens_skip, after_star, behind_star, behind_skip, or_else}
 
 -- ---- the first mark
 

@@ -1,16 +1,10 @@
 -- The bytes of a text by what they can stand in. (docs/LANGUAGE.md, "Text and tokens"; IEEE Std 1364-2005, clauses 3.1 to 3.3 and
 -- 3.7.)
-use Rattle.std.specs.Prelude.{◌≡◌, ◌≢◌, ℕ, Bool, false, ◌==◌, ◌&&◌, ◌||◌, not, nat_le, List, [], ◌∷◌, ◌++◌}
-
-abbrev pub is_digit : ℕ → Bool
-is_digit byte = nat_le 48 byte && nat_le byte 57
+use Rattle.std.specs.Prelude.{◌≢◌, ℕ, Bool, ◌==◌, ◌&&◌, ◌||◌, not, nat_le, List, ◌++◌}
+pub use Rattle.vf_number.specs.Bytes.{is_digit, is_blank, Ends}
 
 abbrev pub is_letter : ℕ → Bool
 is_letter byte = (nat_le 65 byte && nat_le byte 90) || (nat_le 97 byte && nat_le byte 122)
-
--- space, tab, newline, form feed and carriage return
-abbrev pub is_blank : ℕ → Bool
-is_blank byte = byte == 32 || byte == 9 || byte == 10 || byte == 12 || byte == 13
 
 -- a letter or `_`
 abbrev pub begins_name : ℕ → Bool
@@ -27,11 +21,6 @@ is_no_blank byte = not (is_blank byte)
 -- a byte before the end of the line
 abbrev pub is_no_newline : ℕ → Bool
 is_no_newline byte = not (byte == 10)
-
--- what follows does not begin with a byte of the class, so that a run of such bytes ends there
-abbrev pub Ends : (ℕ → Bool) → List ℕ → Type 0
-Ends class [] = Unit {0}
-Ends class (byte ∷ rest) = class byte ≡ false
 
 -- the mark stands nowhere in the text
 abbrev pub Lacks : List ℕ → List ℕ → Type 0

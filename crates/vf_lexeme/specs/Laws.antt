@@ -1,5 +1,6 @@
 -- What holds of every text.
-use Rattle.std.specs.Prelude.{◌≡◌, ℕ, ◌<◌, List, ◌++◌, length, Ok}
+use Rattle.std.specs.Prelude.{◌≡◌, ℕ, ◌<◌, List, length, Ok}
+pub use Rattle.vf_number.specs.Bytes.{IsBehind}
 use Rattle.vf_lexeme.specs.declared.kinds.Lexeme.{Lexeme}
 use Rattle.vf_lexeme.specs.declared.kinds.Passed.{Passed}
 use Rattle.vf_lexeme.specs.Words.{IsNameAt}
@@ -24,10 +25,6 @@ PassesSome = (text : List ℕ) → 0 < length text → (seen : SeenPassing) × P
 abbrev pub NamesOnce : Type 0
 NamesOnce = (text name rest other more : List ℕ) → IsNameAt text name rest → IsNameAt text other more
     → (name ≡ other) × (rest ≡ more)
-
--- the text is a front of one byte or more, and the rest
-abbrev pub IsBehind : List ℕ → List ℕ → Type 0
-IsBehind text rest = (front : List ℕ) × (text ≡ front ++ rest) × (0 < length front)
 
 -- a lexeme takes one byte or more, and leaves what is behind it
 abbrev pub BeginsTakes : Type 0

@@ -2,6 +2,9 @@
 use Rattle.std.specs.Prelude.{◌≡◌, ◌≢◌, ℕ, Bool, true, false, ◌&&◌, not, nat_le, List, ◌∷◌, ◌++◌, Result, Ok, Err}
 use Rattle.std.specs.List.{list_all}
 use Rattle.vf_fours.specs.Bits.{FourState}
+use Rattle.vf_number.specs.declared.fault.NumberFault.{NumberFault}
+use Rattle.vf_number.specs.declared.fault.NumberFault.TheVariants as number_faults
+use Rattle.vf_number.specs.Numbers.{IsNumber}
 use Rattle.vf_lexeme.specs.declared.kinds.TokenKind.TheVariants.{Name, System, Word, Number, Quoted, Sign}
 use Rattle.vf_lexeme.specs.declared.kinds.Lexeme.{Lexeme}
 use Rattle.vf_lexeme.specs.declared.kinds.Lexeme.TheVariants.{Blank, Token, Directive}
@@ -14,12 +17,16 @@ use Rattle.vf_lexeme.specs.declared.kinds.OpenFault.TheVariants as open_faults
 use Rattle.vf_lexeme.specs.Bytes.{is_blank, is_name_byte, is_no_blank, Ends}
 use Rattle.vf_lexeme.specs.Words.{IsName, is_reserved}
 use Rattle.vf_lexeme.specs.Strings.{IsQuoted}
-use Rattle.vf_lexeme.specs.Numbers.{IsNumber}
 use Rattle.vf_lexeme.specs.Signs.{OpensSkip, IsSkipped, IsOpen, IsSignAt}
 
 -- a lexeme and the bytes behind it, or a fault
 abbrev pub Seen : Type 0
 Seen = Result (Lexeme × List ℕ) LexemeFault
+
+-- the fault of a number, as one of a lexeme
+abbrev pub of_number : NumberFault → LexemeFault
+of_number number_faults.BadNumber = BadNumber
+of_number number_faults.TooWide = TooWide
 
 -- a byte that begins nothing: it is no blank and not printable
 abbrev pub is_stray : ℕ → Bool
@@ -41,7 +48,7 @@ pub data Begins (text : List ℕ) (seen : Seen) : Type 0 where
       → seen ≡ Ok (Token (System (36 ∷ first ∷ more)), rest) → Begins text seen
   number : (value : FourState) (rest : List ℕ) → IsNumber text (Ok (value, rest))
       → seen ≡ Ok (Token (Number value), rest) → Begins text seen
-  bad_number : (fault : LexemeFault) → IsNumber text (Err fault) → seen ≡ Err fault → Begins text seen
+  bad_number : (fault : NumberFault) → IsNumber text (Err fault) → seen ≡ Err (of_number fault) → Begins text seen
   quoted : (behind value rest : List ℕ) → IsQuoted behind value rest → text ≡ 34 ∷ behind
       → seen ≡ Ok (Token (Quoted value), rest) → Begins text seen
   open_string : (behind : List ℕ) → ((value rest : List ℕ) → IsQuoted behind value rest → ⊥) → text ≡ 34 ∷ behind

@@ -1,7 +1,6 @@
 pub mod Bytes
 pub mod Words
 pub mod Strings
-pub mod Numbers
 pub mod Signs
 pub mod Lexemes
 pub mod Laws

@@ -1,17 +1,12 @@
 -- What the code does, as functions on lists. The definitions of lexemes do not rest on them: the proofs show that they read exactly
 -- what those say.
-use Rattle.std.specs.Prelude.{◌≡◌, ℕ, zero, suc, ◌+◌, ◌-◌, ◌*◌, ◌^◌, Bool, true, false, not, ◌==◌, ◌||◌, ◌&&◌, nat_le, nat_lt, List, [], ◌∷◌, ◌++◌, length, take, drop, Option, Some, None, Result, Ok, Err, if◌then◌else◌}
+use Rattle.std.specs.Prelude.{◌≡◌, ℕ, zero, suc, ◌+◌, Bool, true, false, not, ◌==◌, ◌||◌, ◌&&◌, nat_le, List, [], ◌∷◌, length, take, drop, Option, Some, None, Result, Ok, Err, if◌then◌else◌}
 use Rattle.std.specs.Option.{option_map}
-use Rattle.std.specs.Char.{digit_value}
-use Rattle.std.specs.List.{list_all}
-use Rattle.vf_fours.specs.declared.Bit.{Bit}
-use Rattle.vf_fours.specs.Bits.{FourState}
-use Rattle.vf_fours.specs.Numbers.{digits_of}
-use Rattle.vf_lexeme.specs.declared.bases.Base.{Base}
-use Rattle.vf_lexeme.specs.declared.bases.Base.TheVariants as bases
-use Rattle.vf_lexeme.specs.declared.bases.Base.TheVariants.{Binary, Octal, Hex}
+use Rattle.vf_number.specs.Numbers.{Read, begins_number}
+use Rattle.vf_number.specs.Runs.{run, behind}
+use Rattle.vf_number.specs.Reading.{number_at}
 use Rattle.vf_lexeme.specs.declared.classes.Class.{Class}
-use Rattle.vf_lexeme.specs.declared.classes.Class.TheVariants.{Blank, NoBlank, Line, Name, Decimal, Underscore, Digits}
+use Rattle.vf_lexeme.specs.declared.classes.Class.TheVariants.{NoBlank, Line, Name}
 use Rattle.vf_lexeme.specs.declared.kinds.TokenKind.{TokenKind}
 use Rattle.vf_lexeme.specs.declared.kinds.TokenKind.TheVariants as kinds
 use Rattle.vf_lexeme.specs.declared.kinds.Lexeme.TheVariants as lexemes
@@ -19,33 +14,18 @@ use Rattle.vf_lexeme.specs.declared.kinds.LexemeFault.{LexemeFault}
 use Rattle.vf_lexeme.specs.declared.kinds.LexemeFault.TheVariants.{BadCharacter, OpenComment, OpenString, BadNumber, TooWide, Memory}
 use Rattle.vf_lexeme.specs.declared.kinds.Passed.TheVariants as passed
 use Rattle.vf_lexeme.specs.declared.kinds.OpenFault.TheVariants as open_faults
-use Rattle.vf_lexeme.specs.Bytes.{is_digit, is_blank, is_no_blank, is_no_newline, is_name_byte, begins_name}
+use Rattle.vf_lexeme.specs.Bytes.{is_blank, is_no_blank, is_no_newline, is_name_byte, begins_name}
 use Rattle.vf_lexeme.specs.Words.{is_reserved}
 use Rattle.vf_lexeme.specs.Strings.{is_octal, octal_byte}
-use Rattle.vf_lexeme.specs.Numbers.{is_decimal_byte, is_underscore, is_byte_of, is_digit_of, is_unknown, base_of, decimal_value, is_unknown_at, digit_bits, digit_width, bits_at, is_too_large}
 use Rattle.vf_lexeme.specs.Signs.{is_sign}
-use Rattle.vf_lexeme.specs.Lexemes.{Seen, SeenPassing}
+use Rattle.vf_lexeme.specs.Lexemes.{Seen, SeenPassing, of_number}
 
--- ---- runs
+-- ---- classes
 
 abbrev pub in_class : Class → ℕ → Bool
-in_class Blank byte = is_blank byte
 in_class NoBlank byte = is_no_blank byte
 in_class Line byte = is_no_newline byte
 in_class Name byte = is_name_byte byte
-in_class Decimal byte = is_decimal_byte byte
-in_class Underscore byte = is_underscore byte
-in_class (Digits base) byte = is_byte_of base byte
-
--- the longest run of bytes of a class at the front of a text
-unfoldable pub run : (ℕ → Bool) → List ℕ → List ℕ
-run class [] = []
-run class (byte ∷ rest) = if class byte then byte ∷ run class rest else []
-
--- and what follows it
-unfoldable pub behind : (ℕ → Bool) → List ℕ → List ℕ
-behind class [] = []
-behind class (byte ∷ rest) = if class byte then behind class rest else byte ∷ rest
 
 -- ---- answers
 
@@ -62,16 +42,6 @@ Fails Memory read = Unit {0}
 abbrev pub Gives : {X Y : Type 0} → (X → Y) → Result X LexemeFault → Result Y LexemeFault → Type 0
 Gives view (Ok x) read = read ≡ Ok (view x)
 Gives view (Err e) read = Fails e read
-
--- the same of a function that takes no memory
-abbrev pub Shows : {X Y E : Type 0} → (X → Y) → Result X E → Result Y E → Type 0
-Shows view (Ok x) read = read ≡ Ok (view x)
-Shows view (Err e) read = read ≡ Err e
-
-infixl 10 ◌>>=◌
-abbrev pub ◌>>=◌ : {A B : Type 0} → Result A LexemeFault → (A → Result B LexemeFault) → Result B LexemeFault
-(Ok x) >>= f = f x
-(Err e) >>= f = Err e
 
 -- ---- comments and attributes
 
@@ -197,98 +167,14 @@ quoted text = seen_string (inside_at false text)
 
 -- ---- numbers
 
--- a number where it is below a limit
-abbrev pub below : ℕ → ℕ → Option ℕ
-below limit n = if nat_lt n limit then Some n else None
-
--- a number with one more decimal digit, or as it is before a `_`
-unfoldable pub appended : ℕ → ℕ → Option ℕ
-appended n byte = if byte == 95 then Some n else below (2 ^ 128) (n * 10 + digit_value byte)
-
-unfoldable pub width_at : List ℕ → Result ℕ LexemeFault
-width_at [] = Ok 32
-width_at (first ∷ more) =
-    let n = decimal_value (first ∷ more) in
-    if n == 0 then Err BadNumber else if nat_lt 128 n then Err TooWide else Ok n
-
-unfoldable pub mark_at : List ℕ → Bool × List ℕ
-mark_at [] = (false, [])
-mark_at (first ∷ rest) = if first == 115 || first == 83 then (true, rest) else (false, first ∷ rest)
-
-abbrev pub seen_base : Option Base → List ℕ → Result (Base × List ℕ) LexemeFault
-seen_base (Some base) rest = Ok (base, rest)
-seen_base None rest = Err BadNumber
-
-unfoldable pub base_at : List ℕ → Result (Base × List ℕ) LexemeFault
-base_at [] = Err BadNumber
-base_at (first ∷ rest) = seen_base (base_of first) rest
-
-abbrev pub is_decimal : Base → Bool
-is_decimal Binary = false
-is_decimal Octal = false
-is_decimal bases.Decimal = true
-is_decimal Hex = false
-
--- digits of a base, or of a decimal one that is not known
-abbrev pub AreDigits : Base → List ℕ → Type 0
-AreDigits Binary digits = list_all (is_byte_of Binary) digits ≡ true
-AreDigits Octal digits = list_all (is_byte_of Octal) digits ≡ true
-AreDigits bases.Decimal digits = is_unknown_at digits ≡ false → list_all is_decimal_byte digits ≡ true
-AreDigits Hex digits = list_all (is_byte_of Hex) digits ≡ true
-
--- the low 128 bits of a value with one more digit behind it
-unfoldable pub with_digit : Base → ℕ → List Bit → List Bit
-with_digit base byte bits = if is_underscore byte then bits else digit_bits base byte ++ take (128 - digit_width base) bits
-
--- with all digits behind it, one after the other
-unfoldable pub with_digits : Base → List ℕ → List Bit → List Bit
-with_digits base [] bits = bits
-with_digits base (byte ∷ rest) bits = with_digits base rest (with_digit base byte bits)
-
-unfoldable pub digits_at : Base → List ℕ → Result (List ℕ × List ℕ) LexemeFault
-digits_at base [] = Err BadNumber
-digits_at base (first ∷ rest) =
-    if is_digit_of base first then Ok (run (is_byte_of base) (first ∷ rest), behind (is_byte_of base) (first ∷ rest)) else
-    if is_decimal base && is_unknown first then Ok (first ∷ run is_underscore rest, behind is_underscore rest) else Err BadNumber
-
-unfoldable pub value_at : Base → ℕ → Bool → List ℕ → Result FourState LexemeFault
-value_at base width signed digits =
-    if is_too_large base digits then Err BadNumber else Ok (record { bits = bits_at base width digits; signed = signed })
-
-abbrev pub Read : Type 0
-Read = Result (FourState × List ℕ) LexemeFault
-
--- the number of a size, or of none, and of what follows its `'`
-unfoldable pub based_at : List ℕ → List ℕ → Read
-based_at size text = do
-  base ← base_at (mark_at text).1
-  digits ← digits_at base.0 (behind is_blank base.1)
-  width ← width_at size
-  value ← value_at base.0 width (mark_at text).0 digits.0
-  Ok (value, digits.1)
-
-unfoldable pub plain_at : List ℕ → List ℕ → Read
-plain_at digits rest =
-    let n = decimal_value digits in
-    if nat_lt n (2 ^ 32) then Ok (record { bits = digits_of 32 n; signed = true }, rest) else Err BadNumber
-
--- the number of digits, what follows them, and what follows with no blank before it
-unfoldable pub number_by : List ℕ → List ℕ → List ℕ → Read
-number_by digits rest [] = plain_at digits rest
-number_by digits rest (first ∷ more) = if first == 39 then based_at digits more else plain_at digits rest
-
-unfoldable pub number_at : List ℕ → Read
-number_at text = number_by (run is_decimal_byte text) (behind is_decimal_byte text) (behind is_blank (behind is_decimal_byte text))
+abbrev pub seen_number : Read → Seen
+seen_number (Ok r) = Ok (lexemes.Token (kinds.Number r.0), r.1)
+seen_number (Err fault) = Err (of_number fault)
 
 unfoldable pub numbered : List ℕ → Seen
-numbered text = do
-  r ← number_at text
-  Ok (lexemes.Token (kinds.Number r.0), r.1)
+numbered text = seen_number (number_at text)
 
 -- ---- all
-
-abbrev pub begins_number : ℕ → Bool
-begins_number byte = is_digit byte || byte == 39
 
 -- by the first byte, what does not begin with a blank or a name
 unfoldable pub marked : List ℕ → Seen

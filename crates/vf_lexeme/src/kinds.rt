@@ -2,10 +2,12 @@
 
 ghost use Rattle.std.specs.Prelude.{◌≡◌};
 ghost use Rattle.vf_lexeme.specs.declared.kinds.LexemeFault.TheVariants as faults;
+ghost use Rattle.vf_lexeme.specs.Lexemes.{of_number};
 
 use std::alloc::{AllocError, AllocFailed};
 use vf_base::{Memory, Text};
 use vf_fours::Fours;
+use vf_number::NumberFault;
 
 /// What a token is.
 #[derive(Debug, Drop)]
@@ -91,5 +93,16 @@ impl From<Memory> for LexemeFault {
 
     fn from(_error: Memory) -> LexemeFault {
         LexemeFault::Memory
+    }
+}
+
+impl From<NumberFault> for LexemeFault {
+    ghost from_gives = { λ number fault. fault ≡ of_number number };
+
+    fn from(fault: NumberFault) -> LexemeFault {
+        match fault {
+            NumberFault::BadNumber => LexemeFault::BadNumber,
+            NumberFault::TooWide => LexemeFault::TooWide,
+        }
     }
 }

@@ -10,6 +10,7 @@ use crate::classes::{Class, begins_name};
 use crate::{Lexeme, LexemeFault, TokenKind};
 use std::alloc::Global;
 use vf_base::Text;
+use vf_number::ByteClass;
 
 /// The words that are no names: those of the language's grammar, and those of the standard that the language leaves out.
 #[rattlefmt::skip]

@@ -1,17 +1,20 @@
 //! What stands at the front of a text.
 
 ghost use Rattle.std.specs.Prelude.{◌≡◌, ◌<◌, length, IfOk, IfErr, Ok, Err};
+ghost use Rattle.vf_number.specs.Numbers.{BeginsNumber};
+ghost use Rattle.vf_number.specs.Reading.{Shows, number_at};
 ghost use Rattle.vf_lexeme.specs.Lexemes.{Begins, Refuses, Passes};
-ghost use Rattle.vf_lexeme.specs.Reading.{Gives, Shows, begins_number, skipped, marked, lexeme_at, passed_string, passed_skip, passed_at};
+ghost use Rattle.vf_lexeme.specs.Reading.{Gives, skipped, numbered, marked, lexeme_at, passed_string, passed_skip, passed_at};
 
-use crate::classes::{Class, begins_name, is_blank, is_digit};
+use crate::classes::{Class, begins_name};
 use crate::names::{escaped, named, system};
-use crate::numbers::numbered;
 use crate::signs::signed;
 use crate::skips::{behind_skip, opens_skip};
 use crate::strings::{inside, quoted};
-use crate::{Lexeme, LexemeFault, OpenFault, Passed};
+use crate::{Lexeme, LexemeFault, OpenFault, Passed, TokenKind};
 use std::alloc::Global;
+use vf_fours::Fours;
+use vf_number::{ByteClass, NumberFault, begins_number, is_blank, number};
 
 /// The comment or attribute at the front of a text.
 #[tactic(auto, unfolding(crate::specs::Reading::skipped))]
@@ -24,10 +27,24 @@ fn skipped<'a>(text: &'a [u8]) -> Result<(Lexeme, &'a [u8]), LexemeFault>
     }
 }
 
-fn begins_number(byte: u8) -> bool
-    ensures { result ≡ begins_number byte }
+/// As `number`, equal to the function on lists.
+fn number_at<'a>(text: &'a [u8]) -> Result<(Fours, &'a [u8]), NumberFault>
+    requires { BeginsNumber text.now }
+    ensures { Shows (λ r. (r.0, r.1.now)) result (number_at text.now) }
 {
-    is_digit(byte) || byte == b'\''
+    number(text)
+}
+
+/// The number at the front of a text, as a token.
+#[tactic(auto, unfolding(crate::specs::Reading::numbered))]
+fn numbered<'a>(text: &'a [u8]) -> Result<(Lexeme, &'a [u8]), LexemeFault>
+    requires { BeginsNumber text.now }
+    ensures { Gives (λ r. (r.0, r.1.now)) result (numbered text.now) }
+{
+    match number_at(text) {
+        Ok((value, rest)) => Ok((Lexeme::Token(TokenKind::Number(value)), rest)),
+        Err(fault) => Err(LexemeFault::from(fault)),
+    }
 }
 
 /// The lexeme at the front of a text that begins with no blank, plain name, comment or attribute.

