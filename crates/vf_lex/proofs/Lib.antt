@@ -1,7 +1,10 @@
 pub mod NameLemmas
+pub mod Counting
+pub mod Insides
+pub mod Parts
+pub mod MacroTexts
 pub mod ReaderLemmas
 pub mod PlaceLemmas
-pub mod TextLemmas
 pub mod ReadLemmas
 pub mod Once
 pub mod Wholes

@@ -1,33 +1,80 @@
--- The name that the lexeme's crate finds is the one of the definitions.
-use Rattle.std.proofs.Common.{◌≡◌, ℕ, true, List, [], ◌∷◌, ◌++◌, length, drop, take_while, refl, ap, ◌∙◌}
+-- Runs of bytes: the rest of a line, and names. The name that the lexeme's crate finds is the one of the definitions.
+use Rattle.std.proofs.Common.{◌≡◌, ℕ, Bool, true, List, [], ◌∷◌, ◌++◌, length, drop, take_while, refl, ap, ◌∙◌, inl, inr}
 use Rattle.std.specs.List.{list_all}
-use Rattle.std.proofs.lemmas.Bool.{and_parts}
+use Rattle.std.proofs.lemmas.Bool.{cases_Bool, and_parts}
 use Rattle.std.proofs.lemmas.List.Sums.{take_while-cons}
-use Rattle.vf_lexeme.specs.Bytes.{begins_name, is_name_byte, Ends}
+use Rattle.vf_lexeme.specs.Bytes.{begins_name, is_name_byte, is_no_newline, Ends}
 use Rattle.vf_lexeme.specs.Words.{IsName, IsNameAt, named as named_case, unnamed}
-use Rattle.vf_lex.specs.Names.{name_of, behind_name}
+use Rattle.vf_lex.specs.Names.{name_of, behind_name, behind_all, behind_line}
 
-run_of : (more rest : List ℕ) → list_all is_name_byte more ≡ true → Ends is_name_byte rest
-    → take_while is_name_byte (more ++ rest) ≡ more
-run_of [] [] h ends = refl
-run_of [] (b ∷ rest) h ends = take_while-cons is_name_byte b rest ∙ rw ends refl
-run_of (b ∷ more) rest h ends =
-    let p = and_parts (is_name_byte b) (list_all is_name_byte more) h in
-    take_while-cons is_name_byte b (more ++ rest) ∙ rw p.0 (ap (λ (t : List ℕ). b ∷ t) (run_of more rest p.1 ends))
+-- ---- runs of bytes of a class
+
+run_of : (class : ℕ → Bool) (more rest : List ℕ) → list_all class more ≡ true → Ends class rest
+    → take_while class (more ++ rest) ≡ more
+run_of class [] [] h ends = refl
+run_of class [] (b ∷ rest) h ends = take_while-cons class b rest ∙ rw ends refl
+run_of class (b ∷ more) rest h ends =
+    let p = and_parts (class b) (list_all class more) h in
+    take_while-cons class b (more ++ rest) ∙ rw p.0 (ap (λ (t : List ℕ). b ∷ t) (run_of class more rest p.1 ends))
+
+run_parts : (class : ℕ → Bool) (text : List ℕ) → text ≡ take_while class text ++ behind_all class text
+run_parts class [] = refl
+run_parts class (b ∷ rest) = elim (cases_Bool (class b)) [
+  | inl is ↦ rw (take_while-cons class b rest, is) (ap (λ (t : List ℕ). b ∷ t) (run_parts class rest))
+  | inr other ↦ rw (take_while-cons class b rest, other) refl
+]
+
+run_all : (class : ℕ → Bool) (text : List ℕ) → list_all class (take_while class text) ≡ true
+run_all class [] = refl
+run_all class (b ∷ rest) = elim (cases_Bool (class b)) [
+  | inl is ↦ rw (take_while-cons class b rest, is) (rw is (run_all class rest))
+  | inr other ↦ rw (take_while-cons class b rest, other) refl
+]
+
+run_ends : (class : ℕ → Bool) (text : List ℕ) → Ends class (behind_all class text)
+run_ends class [] = tt
+run_ends class (b ∷ rest) = elim (cases_Bool (class b)) [
+  | inl is ↦ rw (take_while-cons class b rest, is) (run_ends class rest)
+  | inr other ↦ rw (take_while-cons class b rest, other) other
+]
+
+-- ---- lines
+
+drop_front : (name rest : List ℕ) → drop (length name) (name ++ rest) ≡ rest
+drop_front [] rest = refl
+drop_front (b ∷ name) rest = drop_front name rest
+
+-- the bytes up to the end of the line, and from there on
+pub record IsLine (bytes : List ℕ) : Type 0 where
+  pub inside : List ℕ
+  pub in_line : list_all is_no_newline inside ≡ true
+  pub ends : Ends is_no_newline (behind_line bytes)
+  pub parts : bytes ≡ inside ++ behind_line bytes
+
+pub line_of : (bytes : List ℕ) → IsLine bytes
+line_of bytes = record {
+  inside = take_while is_no_newline bytes;
+  in_line = run_all is_no_newline bytes;
+  ends = run_ends is_no_newline bytes;
+  parts = run_parts is_no_newline bytes;
+}
+
+pub behind_line_of : (inside rest : List ℕ) → list_all is_no_newline inside ≡ true → Ends is_no_newline rest
+    → behind_line (inside ++ rest) ≡ rest
+behind_line_of inside rest h ends =
+    ap (λ (t : List ℕ). drop (length t) (inside ++ rest)) (run_of is_no_newline inside rest h ends) ∙ drop_front inside rest
+
+-- ---- names
 
 front_of : (name rest : List ℕ) → IsName name → Ends is_name_byte rest → name_of (name ++ rest) ≡ name
 unfolding name_of
 front_of [] rest is ends = absurd is
-front_of (b ∷ more) rest is ends = rw is.0 (ap (λ (t : List ℕ). b ∷ t) (run_of more rest is.1 ends))
+front_of (b ∷ more) rest is ends = rw is.0 (ap (λ (t : List ℕ). b ∷ t) (run_of is_name_byte more rest is.1 ends))
 
 no_front : (text : List ℕ) → Ends begins_name text → name_of text ≡ []
 unfolding name_of
 no_front [] ends = refl
 no_front (b ∷ text) ends = rw ends refl
-
-drop_front : (name rest : List ℕ) → drop (length name) (name ++ rest) ≡ rest
-drop_front [] rest = refl
-drop_front (b ∷ name) rest = drop_front name rest
 
 pub named : (text name rest : List ℕ) → IsNameAt text name rest → name ≡ name_of text
 named text name rest (named_case is ends e) = rw (e, front_of name rest is ends) refl

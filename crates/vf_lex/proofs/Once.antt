@@ -1,34 +1,18 @@
 -- A text is read in one way.
-use Rattle.std.proofs.Common.{◌≡◌, ℕ, ◌<◌, ◌≤◌, List, ◌++◌, length, take, drop, Some, ap, sym, subst, ◌∙◌, arith}
+use Rattle.std.proofs.Common.{◌≡◌, ℕ, ◌<◌, ◌≤◌, List, length, Some, ap, sym, subst, ◌∙◌, arith}
 use Rattle.std.proofs.lemmas.Bool.{both_ways}
 use Rattle.vf_base.specs.declared.names.Place.{Place}
 use Rattle.vf_lexeme.specs.Laws.{BeginsOnce, PassesOnce}
 use Rattle.vf_lex.specs.declared.fault.LexFault.{LexFault}
 use Rattle.vf_lex.specs.declared.fault.LexKind.TheVariants.{MacroDepth}
-use Rattle.vf_lex.specs.declared.macro_text.Stands.{Stands}
-use Rattle.vf_lex.specs.declared.macro_text.Stands.TheVariants.{Free}
 use Rattle.vf_lex.specs.declared.spot.Spot.{Spot}
 use Rattle.vf_lex.specs.Around.{Around, End, Ended, Stopped, is_taken, with_macro}
 use Rattle.vf_lex.specs.Directives.{Effect, Goes, Defines, Uses, Stops}
 use Rattle.vf_lex.specs.Elements.{taken_effect, passed_effect, Does, taken, passed}
-use Rattle.vf_lex.specs.MacroText.{shown, Spells, ends as spells_ends, goes as spells_goes}
+use Rattle.vf_lex.specs.MacroText.{IsMacroText}
 use Rattle.vf_lex.specs.Places.{moved, nested, before}
 use Rattle.vf_lex.specs.Reads.{fault_at, Reads, ends, goes, defines, uses, use_stops, too_deep, stops}
-
-spells_once : {stands : Stands} {bytes : List ℕ} {one other rest more : List ℕ} → Spells stands bytes one rest
-    → Spells stands bytes other more → (one ≡ other) × (rest ≡ more)
-spells_once (spells_ends e a b) (spells_ends f c d) = (a ∙ sym c, b ∙ sym d)
-spells_once (spells_ends e a b) (spells_goes piece more f s c) = absurd cc
-spells_once (spells_goes piece more e s a) (spells_ends f c d) = absurd cc
-spells_once {bytes} {more = behind} (spells_goes piece one e s a) (spells_goes piece_2 two f t b) =
-    let same : piece_2 ≡ piece = cc in
-    let u : Spells piece.stands (drop piece.bytes bytes) two behind = subst
-    (λ p. Spells p.stands (drop p.bytes bytes) two behind) same t in
-    let once = spells_once s u in (
-      a ∙ ap (λ m. shown piece.joins (take piece.bytes bytes) ++ m) once.0
-          ∙ sym (b ∙ ap (λ p. shown p.joins (take p.bytes bytes) ++ two) same),
-      once.1,
-    )
+use Rattle.vf_lex.proofs.MacroTexts.{text_once}
 
 module _ (begins : BeginsOnce) (passes : PassesOnce) where
   does_once : (place : Place) (now : Around) (text : List ℕ) (one other : Effect) → Does place now text one
@@ -52,7 +36,7 @@ module _ (begins : BeginsOnce) (passes : PassesOnce) where
   abbrev Follows : Spot → Around → List ℕ → End → Effect → Type 0
   Follows spot now text end (Goes next rest) = Reads (moved spot (before text rest)) next rest end
   Follows spot now text end (Defines name bytes) =
-      (body : List ℕ) × (rest : List ℕ) × Spells Free bytes body rest
+      (body : List ℕ) × (rest : List ℕ) × IsMacroText bytes body rest
       × Reads (moved spot (before text rest)) (with_macro now name (Some body)) rest end
   Follows spot now text end (Uses body rest) = AfterUse spot now text body rest end
   Follows spot now text end (Stops kind) = end ≡ Stopped (fault_at kind spot)
@@ -90,7 +74,7 @@ module _ (begins : BeginsOnce) (passes : PassesOnce) where
       (follows spot now text other (Goes next rest) some d s)
   reads_once {spot} {now} {text} {other} (defines name bytes body rest some d t r) s =
       let f = follows spot now text other (Defines name bytes) some d s in
-      let same = spells_once f.2 t in
+      let same = text_once passes f.2 t in
       let again : Reads (moved spot (before text rest)) (with_macro now name (Some body)) rest other =
       subst (λ b. Reads (moved spot (before text rest)) (with_macro now name (Some b)) rest other) same.0
       (subst (λ u. Reads (moved spot (before text u)) (with_macro now name (Some f.0)) u other) same.1 f.3) in

@@ -12,10 +12,9 @@ use Rattle.vf_lex.specs.declared.fault.LexKind.{LexKind}
 use Rattle.vf_lex.specs.declared.fault.LexKind.TheVariants.{MacroDepth}
 use Rattle.std.proofs.lemmas.Bool.{eqb-true}
 use Rattle.vf_lex.specs.declared.fault.LexFault.{LexFault}
-use Rattle.vf_lex.specs.declared.macro_text.Stands.TheVariants.{Free}
 use Rattle.vf_lex.specs.declared.spot.Spot.{Spot}
 use Rattle.vf_lex.specs.Around.{Around, End, Ended, Stopped, is_taken, with_macro}
-use Rattle.vf_lex.specs.MacroText.{Spells}
+use Rattle.vf_lex.specs.MacroText.{IsMacroText}
 use Rattle.vf_lex.specs.Places.{moved, nested, before}
 use Rattle.vf_lex.specs.Reads.{Reads, fault_at, goes, defines, uses, use_stops, too_deep, stops}
 use Rattle.vf_lex.specs.Answers.{Gives, DoesSo, FailsWith, Carries, StopsAt, seen}
@@ -88,7 +87,7 @@ goes_on spot now next text rest some d end r = goes next rest some d r
 
 -- a definition, of which no more is known than that it was made
 abbrev pub IsDefined : List ℕ → List ℕ → List ℕ → Around → Around → Type 0
-IsDefined name bytes rest now next = (body : List ℕ) × Spells Free bytes body rest × (next ≡ with_macro now name (Some body))
+IsDefined name bytes rest now next = (body : List ℕ) × IsMacroText bytes body rest × (next ≡ with_macro now name (Some body))
 
 pub defines_on : (spot : Spot) (now mid next : Around) (text name bytes rest : List ℕ) → 0 < length text
     → Does spot.place now text (Defines name bytes) → mid ≡ now

@@ -1,6 +1,6 @@
 -- Each text is read to its end, or to a first fault.
-use Rattle.std.proofs.Common.{◌≡◌, ℕ, zero, suc, ◌+◌, ◌-◌, ◌<◌, ◌≤◌, Bool, true, false, not, eqb, ◌&&◌, ◌||◌, cond, List, [], ◌∷◌, ◌++◌, length, drop, Option, Some, None, Ok, Err, ◌⊎◌, inl, inr, refl, ap, arith, length-drop, length-append}
-use Rattle.std.proofs.lemmas.Bool.{cases_Bool, and_parts}
+use Rattle.std.proofs.Common.{◌≡◌, ℕ, zero, suc, ◌+◌, ◌-◌, ◌<◌, ◌≤◌, Bool, true, false, eqb, ◌||◌, cond, List, [], ◌∷◌, ◌++◌, length, drop, Option, Some, None, Ok, Err, ◌⊎◌, inl, inr, refl, ap, arith, length-drop, length-append}
+use Rattle.std.proofs.lemmas.Bool.{cases_Bool}
 use Rattle.vf_base.specs.declared.names.Place.{Place}
 use Rattle.vf_lexeme.specs.declared.kinds.Lexeme.TheVariants as lexemes
 use Rattle.vf_lexeme.specs.declared.kinds.TokenKind.{TokenKind}
@@ -12,21 +12,18 @@ use Rattle.vf_lex.specs.declared.directive.Branching.TheVariants.{Ifdef, Ifndef,
 use Rattle.vf_lex.specs.declared.directive.Directive.{Directive}
 use Rattle.vf_lex.specs.declared.directive.Directive.TheVariants.{Define, Undef, Skipped, Include, Use}
 use Rattle.vf_lex.specs.declared.fault.LexFault.{LexFault}
-use Rattle.vf_lex.specs.declared.macro_text.Piece.{Piece}
-use Rattle.vf_lex.specs.declared.macro_text.Stands.{Stands}
-use Rattle.vf_lex.specs.declared.macro_text.Stands.TheVariants.{Free}
 use Rattle.vf_lex.specs.declared.reader.Condition.{Condition}
 use Rattle.vf_lex.specs.declared.spot.Spot.{Spot}
 use Rattle.vf_lex.specs.declared.token.Token.{Token}
 use Rattle.vf_lex.specs.Around.{Around, End, Ended, Stopped, nothing_yet, is_taken, with_macro}
 use Rattle.vf_lex.specs.Directives.{Effect, Goes, Defines, Uses, Stops, branching_of, directive_of, opens, turns, turns_last, closes, branches, defines, undefines, uses, directs, directs_or_branches, directed}
 use Rattle.vf_lex.specs.Elements.{takes, taken_effect, passed_effect, Does, taken, passed}
-use Rattle.vf_lex.specs.MacroText.{line_joint, plain_piece, piece_of, behind_two, piece_at, may_join, Spells, ends as spells_ends, goes as spells_goes}
 use Rattle.vf_lex.specs.Names.{name_of, behind_name, behind_blanks, behind_line_blanks}
 use Rattle.vf_lex.specs.Places.{moved, nested, before}
 use Rattle.vf_lex.specs.Reads.{Reads, fault_at, ends, goes, defines as reads_defines, uses as reads_uses, use_stops, too_deep, stops}
 use Rattle.vf_lex.specs.Tokens.{first_spot, IsTokens, IsFirstFault, stopped, open_end, TokensAreSome}
 use Rattle.vf_lex.proofs.PlaceLemmas.{moved_depth}
+use Rattle.vf_lex.proofs.MacroTexts.{text_some}
 
 -- what the effect leaves to be read is at most so long
 abbrev Leaves : ℕ → Effect → Type 0
@@ -128,7 +125,7 @@ takes_leaves n place now kind rest h = leaves_either n _ (Goes _ rest) (Stops _)
 shorter : (text rest : List ℕ) → IsBehind text rest → length rest + 1 ≤ length text
 shorter text rest b = omega (arith, ap length b.1, length-append b.0 rest, b.2)
 
--- ---- the text of a macro
+-- ---- numbers
 
 none_or : (n : ℕ) → (n ≡ 0) ⊎ (0 < n)
 none_or zero = inl refl
@@ -136,66 +133,6 @@ none_or (suc n) = inr (omega arith)
 
 less_or : (m n : ℕ) → (m < n) ⊎ (n ≤ m)
 less_or m n = elim (none_or (n - m)) [ inl e ↦ inr (omega (arith, e)) | inr h ↦ inl (omega (arith, h)) ]
-
-some_piece : (o : Option Stands) (stands : Stands) (first : ℕ) → 0 < (piece_of o stands first).bytes
-some_piece None stands first = omega arith
-some_piece (Some behind) stands first = omega arith
-
--- a piece, if there is one, has bytes
-abbrev HasBytes : Option Piece → Type 0
-HasBytes None = Unit {0}
-HasBytes (Some piece) = 0 < piece.bytes
-
-bytes_either : (b : Bool) (piece : Piece) → 0 < piece.bytes → HasBytes (cond b None (Some piece))
-bytes_either true piece h = tt
-bytes_either false piece h = h
-
-plain_bytes : (stands : Stands) (bytes : List ℕ) → HasBytes (plain_piece stands bytes)
-unfolding plain_piece
-plain_bytes stands [] = tt
-plain_bytes stands (first ∷ []) = bytes_either (eqb first 10) _ (some_piece None stands first)
-plain_bytes stands (first ∷ second ∷ rest) = bytes_either (eqb first 10) _
-    (some_piece (behind_two stands first second rest) stands first)
-
-some_joint : (n : ℕ) → not (eqb n 0) ≡ true → 0 < n
-some_joint zero e = absurd cc
-some_joint (suc n) e = omega arith
-
-piece_bytes : (stands : Stands) (bytes : List ℕ) → HasBytes (piece_at stands bytes)
-unfolding piece_at
-piece_bytes stands bytes = elim (cases_Bool (may_join stands && not (eqb (line_joint bytes) 0))) [
-  | inl joins ↦ rw joins (some_joint (line_joint bytes) (and_parts (may_join stands) (not (eqb (line_joint bytes) 0)) joins).1)
-  | inr plain ↦ rw plain (plain_bytes stands bytes)
-]
-
-no_piece : (stands : Stands) → piece_at stands [] ≡ None
-unfolding piece_at plain_piece line_joint
-no_piece stands = elim (cases_Bool (may_join stands)) [ inl is ↦ rw is refl | inr other ↦ rw other refl ]
-
--- the text of a macro that the bytes begin with, and its rest
-abbrev Spelled : Stands → List ℕ → Type 0
-Spelled stands bytes = (text : List ℕ) × (rest : List ℕ) × Spells stands bytes text rest × (length rest ≤ length bytes)
-
-spelled_by : (n : ℕ) (stands : Stands) (bytes : List ℕ) (piece : Option Piece) → piece_at stands bytes ≡ piece
-    → HasBytes piece → length bytes ≤ suc n
-    → ((s : Stands) (b : List ℕ) → length b ≤ n → Spelled s b) → 0 < length bytes → Spelled stands bytes
-spelled_by n stands bytes None e h fits on some = ([], bytes, spells_ends e refl refl, omega arith)
-spelled_by n stands bytes (Some piece) e h fits on some =
-    let less = length-drop piece.bytes bytes in
-    let more = on piece.stands (drop piece.bytes bytes) (omega (arith, less, h, fits, some)) in
-    (_, more.1, spells_goes piece more.0 e more.2 refl, omega (arith, less, more.3))
-
-spelled_none : (stands : Stands) (bytes : List ℕ) → length bytes ≡ 0 → Spelled stands bytes
-spelled_none stands [] e = ([], [], spells_ends (no_piece stands) refl refl, omega arith)
-spelled_none stands (b ∷ bytes) e = absurd (omega (arith, e))
-
-spelled_some : (n : ℕ) (stands : Stands) (bytes : List ℕ) → length bytes ≤ n → Spelled stands bytes
-spelled_some zero stands bytes h = spelled_none stands bytes (omega (arith, h))
-spelled_some (suc n) stands bytes h = elim (none_or (length bytes)) [
-  | inl none ↦ spelled_none stands bytes none
-  | inr some ↦ spelled_by n stands bytes (piece_at stands bytes) refl (piece_bytes stands bytes) h
-      (λ s b fits. spelled_some n s b fits) some
-]
 
 -- ---- an element
 
@@ -270,7 +207,7 @@ module _ (begins : BeginsSome) (begins_takes : BeginsTakes) (passes : PassesSome
       let e = on (moved spot (before text rest)) next rest (moved_depth spot (before text rest)) h
       in (e.0, goes next rest some d e.1)
   behind_ends k inner spot now text (Defines name bytes) deep some d h on =
-      let s = spelled_some (length bytes) Free bytes (omega arith) in
+      let s = text_some passes bytes in
       let e = on (moved spot (before text s.1)) (with_macro now name (Some s.0)) s.1 (moved_depth spot (before text s.1))
       (omega (arith, h, s.3)) in
       (e.0, reads_defines name bytes s.0 s.1 some d s.2 e.1)

@@ -2,7 +2,7 @@
 use Rattle.std.specs.Prelude.{ℕ, Bool, true, false, not, ◌==◌, ◌&&◌, ◌||◌, if◌then◌else◌, List, [], ◌∷◌, length, Option, None, Some, codes}
 use Rattle.std.specs.Str.{bytes_eq}
 use Rattle.vf_base.specs.declared.names.Place.{Place}
-use Rattle.vf_lex.specs.Names.{name_of, behind_name, behind_blanks, behind_line_blanks, behind_line}
+use Rattle.vf_lex.specs.Names.{begins_with, name_of, behind_name, behind_blanks, behind_line_blanks, behind_line}
 use Rattle.vf_lex.specs.declared.directive.Branching.{Branching}
 use Rattle.vf_lex.specs.declared.directive.Branching.TheVariants.{Ifdef, Ifndef, Elsif, Else, Endif}
 use Rattle.vf_lex.specs.declared.directive.Directive.{Directive}
@@ -11,7 +11,6 @@ use Rattle.vf_lex.specs.declared.fault.LexKind.{LexKind}
 use Rattle.vf_lex.specs.declared.fault.LexKind.TheVariants.{UnknownDirective, LeftOut, BadCondition}
 use Rattle.vf_lex.specs.declared.reader.Condition.{Condition}
 use Rattle.vf_lex.specs.Around.{Around, is_taken, is_defined, with_macro, with_conditions}
-use Rattle.vf_lex.specs.MacroText.{begins_with}
 
 -- what an element at the front of a text leads to
 pub data Effect : Type 0 where

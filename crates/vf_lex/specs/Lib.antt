@@ -7,4 +7,5 @@ pub mod Elements
 pub mod Reads
 pub mod Tokens
 pub mod Inner
+pub mod Scanning
 pub mod Answers

@@ -1,89 +1,75 @@
 -- The text of a macro (docs/LANGUAGE.md, "Text and tokens"; IEEE Std 1364-2005, clause 19.3.1).
-use Rattle.std.specs.Prelude.{◌≡◌, ℕ, Bool, true, false, not, ◌==◌, ◌&&◌, if◌then◌else◌, List, [], ◌∷◌, ◌++◌, drop, take, Option, None, Some}
-use Rattle.vf_lexeme.specs.Bytes.{is_blank}
-use Rattle.vf_lex.specs.declared.macro_text.Piece.{Piece}
-use Rattle.vf_lex.specs.declared.macro_text.Stands.{Stands}
-use Rattle.vf_lex.specs.declared.macro_text.Stands.TheVariants.{Free, Name, Quote, Block, Line, Attribute}
+use Rattle.std.specs.Prelude.{◌≡◌, ◌≢◌, ℕ, ◌<◌, ◌⊎◌, true, List, [], ◌∷◌, ◌++◌, length, codes}
+use Rattle.std.specs.List.{list_all}
+use Rattle.vf_lexeme.specs.Bytes.{is_no_blank, is_no_newline, Ends, Lacks}
+use Rattle.vf_lexeme.specs.Signs.{is_close, OpensSkip}
+use Rattle.vf_lexeme.specs.Strings.{IsQuoted}
 
--- a byte that the bytes begin with
-abbrev pub begins_with : ℕ → List ℕ → Bool
-begins_with byte [] = false
-begins_with byte (first ∷ more) = first == byte
+-- a `\` and the end of its line, behind which a macro's text goes on
+abbrev pub IsJoint : List ℕ → Type 0
+IsJoint joint = (joint ≡ 92 ∷ 10 ∷ []) ⊎ (joint ≡ 92 ∷ 13 ∷ 10 ∷ [])
 
--- where `\` before the end of a line lets the text go on: in no comment and no string
-abbrev pub may_join : Stands → Bool
-may_join Free = true
-may_join Name = true
-may_join Quote = false
-may_join Block = false
-may_join Line = false
-may_join Attribute = true
+-- the bytes begin with a joint, and what follows it
+pub record IsJoined (bytes behind : List ℕ) : Type 0 where
+  pub joint : List ℕ
+  pub is : IsJoint joint
+  pub parts : bytes ≡ joint ++ behind
 
--- an escaped name ends with its line
-abbrev pub joined : Stands → Stands
-joined Free = Free
-joined Name = Free
-joined Quote = Quote
-joined Block = Block
-joined Line = Line
-joined Attribute = Attribute
+-- a joint stands across the border of two runs of bytes
+pub record Straddles (front rest : List ℕ) : Type 0 where
+  pub before : List ℕ
+  pub head : List ℕ
+  pub tail : List ℕ
+  pub behind : List ℕ
+  pub some_head : 0 < length head
+  pub some_tail : 0 < length tail
+  pub front_is : front ≡ before ++ head
+  pub rest_is : rest ≡ tail ++ behind
+  pub is : IsJoint (head ++ tail)
 
--- the two bytes at the front that are read as one, and where the bytes behind them stand: the beginning or end of a comment
--- or of an attribute, and a byte of a string with its `\`
-abbrev pub behind_two : Stands → ℕ → ℕ → List ℕ → Option Stands
-behind_two Free first second rest =
-    if first == 47 && second == 47 then Some Line
-    else if first == 47 && second == 42 then Some Block
-    else if first == 40 && second == 42 && not (begins_with 41 rest) then Some Attribute
-    else None
-behind_two Name first second rest = None
-behind_two Quote first second rest = if first == 92 && not (second == 10) then Some Quote else None
-behind_two Block first second rest = if first == 42 && second == 47 then Some Free else None
-behind_two Line first second rest = None
-behind_two Attribute first second rest = if first == 42 && second == 41 then Some Free else None
+-- What bytes of a macro's text count as: a joint as a blank, and every other byte as itself. No newline stands outside of a joint.
+pub data Counts : List ℕ → List ℕ → Type 0 where
+  nothing : Counts [] []
+  joined : {bytes behind text : List ℕ} → IsJoined bytes behind → Counts behind text → Counts bytes (32 ∷ text)
+  plain : {byte : ℕ} {behind text : List ℕ} → byte ≢ 10 → Counts behind text → Counts (byte ∷ behind) (byte ∷ text)
 
--- where the bytes behind one byte stand
-abbrev pub behind_one : Stands → ℕ → Stands
-behind_one Free byte = if byte == 34 then Quote else if byte == 92 then Name else Free
-behind_one Name byte = if is_blank byte then Free else Name
-behind_one Quote byte = if byte == 34 then Free else Quote
-behind_one Block byte = Block
-behind_one Line byte = Line
-behind_one Attribute byte = Attribute
+-- an escaped name ends before a blank, a joint, or the end of all
+abbrev pub EndsName : List ℕ → Type 0
+EndsName bytes = Ends is_no_blank bytes ⊎ ((behind : List ℕ) × IsJoined bytes behind)
 
-abbrev pub piece_of : Option Stands → Stands → ℕ → Piece
-piece_of (Some behind) stands first = record { bytes = 2; joins = false; stands = behind }
-piece_of None stands first = record { bytes = 1; joins = false; stands = behind_one stands first }
+-- A whole part of a macro's text at the front of the bytes, and what follows it.
+pub data IsPart (bytes behind : List ℕ) : Type 0 where
+  joint : IsJoined bytes behind → IsPart bytes behind
+  string : (quoted value : List ℕ) → IsQuoted quoted value behind → bytes ≡ 34 ∷ quoted → IsPart bytes behind
+  comment : (inside : List ℕ) → list_all is_no_newline inside ≡ true → Lacks (codes "*/") (inside ++ codes "*")
+      → bytes ≡ codes "/*" ++ (inside ++ (codes "*/" ++ behind)) → IsPart bytes behind
+  attribute : (inside text : List ℕ) → Counts inside text → Lacks (codes "*)") (inside ++ codes "*") → Ends is_close inside
+      → bytes ≡ codes "(*" ++ (inside ++ (codes "*)" ++ behind)) → IsPart bytes behind
+  escaped : (name : List ℕ) → list_all is_no_blank name ≡ true → EndsName behind → (Straddles (92 ∷ name) behind → ⊥)
+      → bytes ≡ 92 ∷ (name ++ behind) → IsPart bytes behind
+  other : (byte : ℕ) → byte ≢ 10 → byte ≢ 34 → byte ≢ 92 → (OpensSkip bytes → ⊥) → bytes ≡ byte ∷ behind → IsPart bytes behind
 
--- how many bytes at the front are `\` and the end of a line; none where they begin otherwise
-unfoldable pub line_joint : List ℕ → ℕ
-line_joint [] = 0
-line_joint (first ∷ []) = 0
-line_joint (first ∷ second ∷ rest) =
-    if first == 92 && second == 10 then 2 else if first == 92 && second == 13 && begins_with 10 rest then 3 else 0
+-- What stands last in a macro's text, nothing or a part that goes on to the end of the line, and the rest.
+pub data IsLast (bytes rest : List ℕ) : Type 0 where
+  end : Ends is_no_newline bytes → rest ≡ bytes → IsLast bytes rest
+  line_comment : (inside : List ℕ) → list_all is_no_newline inside ≡ true → Ends is_no_newline rest
+      → bytes ≡ codes "//" ++ (inside ++ rest) → IsLast bytes rest
+  open_comment : (inside : List ℕ) → list_all is_no_newline inside ≡ true → Lacks (codes "*/") inside → Ends is_no_newline rest
+      → bytes ≡ codes "/*" ++ (inside ++ rest) → IsLast bytes rest
+  open_string : (inside : List ℕ) → ((value behind : List ℕ) → IsQuoted (inside ++ rest) value behind → ⊥)
+      → list_all is_no_newline inside ≡ true → Ends is_no_newline rest → bytes ≡ 34 ∷ (inside ++ rest) → IsLast bytes rest
+  open_attribute : (inside text : List ℕ) → Counts inside text → Lacks (codes "*)") inside → Ends is_close inside
+      → Ends is_no_newline rest → (Straddles inside rest → ⊥)
+      → bytes ≡ codes "(*" ++ (inside ++ rest) → IsLast bytes rest
 
-unfoldable pub plain_piece : Stands → List ℕ → Option Piece
-plain_piece stands [] = None
-plain_piece stands (first ∷ []) = if first == 10 then None else Some (piece_of None stands first)
-plain_piece stands (first ∷ second ∷ rest) =
-    if first == 10 then None else Some (piece_of (behind_two stands first second rest) stands first)
+-- a macro's text stands from the bytes on up to the rest: whole parts, and what stands last
+pub data Reaches : List ℕ → List ℕ → Type 0 where
+  ends : {bytes rest : List ℕ} → IsLast bytes rest → Reaches bytes rest
+  goes : {bytes rest : List ℕ} (behind : List ℕ) → IsPart bytes behind → Reaches behind rest → Reaches bytes rest
 
--- the bytes that are read as one; none at the end of the line
-unfoldable pub piece_at : Stands → List ℕ → Option Piece
-piece_at stands bytes =
-    if may_join stands && not (line_joint bytes == 0)
-    then Some (record { bytes = line_joint bytes; joins = true; stands = joined stands })
-    else plain_piece stands bytes
-
--- bytes of a macro's text: a joint counts as a blank
-abbrev pub shown : Bool → List ℕ → List ℕ
-shown true bytes = 32 ∷ []
-shown false bytes = bytes
-
--- the bytes begin with a macro's text, and its rest; `stands` tells where they begin
-pub data Spells : Stands → List ℕ → List ℕ → List ℕ → Type 0 where
-  ends : {stands : Stands} {bytes text rest : List ℕ} → piece_at stands bytes ≡ None → text ≡ [] → rest ≡ bytes
-      → Spells stands bytes text rest
-  goes : {stands : Stands} {bytes text rest : List ℕ} (piece : Piece) (more : List ℕ) → piece_at stands bytes ≡ Some piece
-      → Spells piece.stands (drop piece.bytes bytes) more rest
-      → text ≡ shown piece.joins (take piece.bytes bytes) ++ more → Spells stands bytes text rest
+-- the bytes begin with a macro's text, and its rest
+pub record IsMacroText (bytes text rest : List ℕ) : Type 0 where
+  pub front : List ℕ
+  pub parts : bytes ≡ front ++ rest
+  pub reaches : Reaches bytes rest
+  pub counts : Counts front text

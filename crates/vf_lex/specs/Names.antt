@@ -1,6 +1,11 @@
 -- Names behind directives (docs/LANGUAGE.md, "Text and tokens"; IEEE Std 1364-2005, clause 3.7).
-use Rattle.std.specs.Prelude.{ℕ, Bool, not, ◌==◌, ◌&&◌, if◌then◌else◌, List, [], ◌∷◌, length, drop, take_while}
+use Rattle.std.specs.Prelude.{ℕ, Bool, false, not, ◌==◌, ◌&&◌, if◌then◌else◌, List, [], ◌∷◌, length, drop, take_while}
 use Rattle.vf_lexeme.specs.Bytes.{is_blank, begins_name, is_name_byte}
+
+-- a byte that the bytes begin with
+abbrev pub begins_with : ℕ → List ℕ → Bool
+begins_with byte [] = false
+begins_with byte (first ∷ more) = first == byte
 
 -- the plain name at the front; empty where none begins the bytes
 unfoldable pub name_of : List ℕ → List ℕ

@@ -3,12 +3,11 @@ use Rattle.std.specs.Prelude.{◌≡◌, ℕ, ◌<◌, ◌≤◌, List, length, 
 use Rattle.vf_lex.specs.declared.fault.LexFault.{LexFault}
 use Rattle.vf_lex.specs.declared.fault.LexKind.{LexKind}
 use Rattle.vf_lex.specs.declared.fault.LexKind.TheVariants.{MacroDepth}
-use Rattle.vf_lex.specs.declared.macro_text.Stands.TheVariants.{Free}
 use Rattle.vf_lex.specs.declared.spot.Spot.{Spot}
 use Rattle.vf_lex.specs.Around.{Around, End, Ended, Stopped, with_macro}
 use Rattle.vf_lex.specs.Directives.{Goes, Defines, Uses, Stops}
 use Rattle.vf_lex.specs.Elements.{Does}
-use Rattle.vf_lex.specs.MacroText.{Spells}
+use Rattle.vf_lex.specs.MacroText.{IsMacroText}
 use Rattle.vf_lex.specs.Places.{moved, nested, before}
 
 abbrev pub fault_at : LexKind → Spot → LexFault
@@ -22,7 +21,7 @@ pub data Reads : Spot → Around → List ℕ → End → Type 0 where
       → Reads (moved spot (before text rest)) next rest end
       → Reads spot now text end
   defines : {spot : Spot} {now : Around} {text : List ℕ} {end : End} (name bytes body rest : List ℕ) → 0 < length text
-      → Does spot.place now text (Defines name bytes) → Spells Free bytes body rest
+      → Does spot.place now text (Defines name bytes) → IsMacroText bytes body rest
       → Reads (moved spot (before text rest)) (with_macro now name (Some body)) rest end
       → Reads spot now text end
   uses : {spot : Spot} {now : Around} {text : List ℕ} {end : End} (body rest : List ℕ) (next : Around) → 0 < length text

@@ -7,8 +7,7 @@ ghost use Rattle.vf_lex.specs.Directives.{Goes, Defines, Uses, branching_of, dir
 ghost use Rattle.vf_lex.specs.Inner.{around};
 
 use crate::LexKind;
-use crate::macro_text::begins_with;
-use crate::names::{behind_blanks, behind_line, behind_line_blanks, split_name};
+use crate::names::{begins_with, behind_blanks, behind_line, behind_line_blanks, split_name};
 use crate::reader::{Condition, Reader};
 use std::alloc::Global;
 use vf_base::Place;

@@ -2,9 +2,18 @@
 
 ghost use Rattle.std.specs.Prelude.{◌≡◌, ◌+◌, ◌≤◌, ◌&&◌, not, ◌==◌, length, take_while};
 ghost use Rattle.vf_lexeme.specs.Bytes.{is_blank};
-ghost use Rattle.vf_lex.specs.Names.{name_of, behind_name, in_line, is_line_blank, behind_blanks, behind_line_blanks, behind_line};
+ghost use Rattle.vf_lex.specs.Names.{begins_with, name_of, behind_name, in_line, is_line_blank, behind_blanks, behind_line_blanks, behind_line};
 
 use vf_lexeme::{is_blank, name};
+
+pub(crate) fn begins_with(byte: u8, bytes: &[u8]) -> bool
+    ensures { result ≡ begins_with byte bytes.now }
+{
+    match bytes {
+        [first, ..] => *first == byte,
+        [] => false,
+    }
+}
 
 /// The plain name at the front, empty where none begins the bytes, and the bytes behind it.
 pub(crate) fn split_name<'a>(bytes: &'a [u8]) -> (&'a [u8], &'a [u8])

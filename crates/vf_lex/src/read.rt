@@ -3,9 +3,8 @@
 ghost use Rattle.std.specs.Prelude.{◌≡◌, ℕ, ◌<◌, ◌≤◌, true, false, List, length, Some, Ok, Err, IfOk};
 ghost use Rattle.vf_lex.specs.Answers.{Gives, seen, left, Keeps, DoesSo, ReadsOne, ReadsAll, HasRoom};
 ghost use Rattle.vf_lex.specs.Around.{is_taken, with_macro};
-ghost use Rattle.vf_lex.specs.MacroText.{Spells};
+ghost use Rattle.vf_lex.specs.MacroText.{IsMacroText};
 ghost use Rattle.vf_lex.specs.Reads.{fault_at};
-ghost use Rattle.vf_lex.specs.declared.macro_text.Stands.TheVariants as stands;
 ghost use Rattle.vf_lex.specs.Elements.{kind_of, open_kind, takes, Does};
 ghost use Rattle.vf_lex.specs.Inner.{around};
 
@@ -134,7 +133,7 @@ fn define<'a>(
     name: &[u8],
     bytes: &'a [u8],
 ) -> Result<&'a [u8], Memory>
-    ensures defined { IfOk result (λ rest. (body : List ℕ) × Spells stands.Free bytes.now body rest.now
+    ensures defined { IfOk result (λ rest. (body : List ℕ) × IsMacroText bytes.now body rest.now
         × (around reader.new ≡ with_macro (around reader.old) name.now (Some body))) }
     ensures behind { IfOk result (λ rest. length rest.now ≤ length bytes.now) }
 {

@@ -192,7 +192,7 @@ fn conditions() -> [(&'static str, &'static str); 36] {
 }
 
 #[rattlefmt::skip]
-fn macros() -> [(&'static str, &'static str); 24] {
+fn macros() -> [(&'static str, &'static str); 42] {
     [
         ("`define A 1 + \\\n2\n`A", "#1@3:1 S:+@3:1 #2@3:1"),
         ("`define A 1 + \\\r\n2\r\n`A", "#1@3:1 S:+@3:1 #2@3:1"),
@@ -212,6 +212,24 @@ fn macros() -> [(&'static str, &'static str); 24] {
         ("`define A 1 \\ 2\n`A", "#1@2:1 N:@2:1 #2@2:1"),
         ("`define A \\", ""),
         ("`define A 1 `timescale 2\\\n3\n`A 4", "#1@3:1 #4@3:4"),
+        ("`define A a\\\n2\n`A", "N:a@3:1 #2@3:1"),
+        ("`define A 1\\ \n2\n`A", "#2@2:1 #1@3:1 N:@3:1"),
+        ("`define A 1 \\\r2\n`A", "#1@2:1 N:@2:1 #2@2:1"),
+        ("`define A 1 // \\\r\n2\n`A", "#2@2:1 #1@3:1"),
+        ("`define A /***/ 1 \\\n2\n`A", "#1@3:1 #2@3:1"),
+        ("`define A 1 /* \\\r\n2\n`A", "!2@3:1"),
+        ("`define A \"\\\"\" \\\n2\n`A", "Q:\"@3:1 #2@3:1"),
+        ("`define A \"// \" \\\n2\n`A", "Q:// @3:1 #2@3:1"),
+        ("`define A \"a\\\r\n2\n`A", "!3@3:1"),
+        ("`define A \"\\\n2\n`A", "!3@3:1"),
+        ("`define A (**) 1 \\\n2\n`A", "#1@3:1 #2@3:1"),
+        ("`define A (*) 1 \\\n*) 2\n`A", "S:(@3:1 S:*@3:1 S:)@3:1 #1@3:1 S:*@3:1 S:)@3:1 #2@3:1"),
+        ("`define A (* \\\r\n *) 1 \\\n2\n`A", "#1@4:1 #2@4:1"),
+        ("`define A (* \" *) 1 \\\n2\n`A", "#1@3:1 #2@3:1"),
+        ("`define A (* x \\\n y\n2 `A", "!2@3:3"),
+        ("`define A \\x\\\r\n2\n`A", "N:x@3:1 #2@3:1"),
+        ("`define A \\\\\n2\n`A", "N:@3:1 #2@3:1"),
+        ("`define A \\(* 1 \\\n2\n`A", "N:(*@3:1 #1@3:1 #2@3:1"),
         ("`define A 8'q\n b `A", "!4@2:4"),
         ("`define A `B\n`define B \x01\n\n `A", "!1@4:2"),
         ("`define A \"x\n`A\"", "!3@2:1"),
