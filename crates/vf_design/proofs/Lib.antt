@@ -1,1 +1,3 @@
 pub mod Sounds
+pub mod Sizes
+pub mod CallerLemmas

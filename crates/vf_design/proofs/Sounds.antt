@@ -6,7 +6,7 @@ use Rattle.vf_base.specs.declared.run.Limits.{Limits}
 use Rattle.vf_machine.specs.Machine.{Sight}
 use Rattle.vf_machine.specs.Laws.{IsStimulus}
 use Rattle.vf_machine.specs.Run.{Moment, moment_at, turn_of, sight_at}
-use Rattle.vf_machine.proofs.Kept.{KeptBy, SeesByte, sees_byte, turn-kept, moments_kept}
+use Rattle.vf_machine.proofs.CallerLemmas.{KeptBy, SeesByte, sees_byte, turn-kept, moments_kept}
 use Rattle.vf_design.specs.declared.code.Instr.{Instr}
 use Rattle.vf_design.specs.declared.code.Instr.TheVariants.{Getc, Jump, Unless, Show, Save, IncSave, Finish, Halt}
 use Rattle.vf_design.specs.Program.{Program, IsCode, IsWellFormed, NamesPlacesBelow, ends_code}

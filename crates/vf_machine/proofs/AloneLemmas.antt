@@ -1,8 +1,7 @@
 -- What becomes of a lone run, from the turn at which it stops.
-use Rattle.std.proofs.Common.{◌≡◌, ℕ, zero, suc, ◌+◌, ◌-◌, ◌<◌, ◌≤◌, Bool, true, false, cond, List, Option, Some, None, nat_lt, refl, sym, ◌∙◌, ap, ap₂, subst, arith, ⊎_elim}
+use Rattle.std.proofs.Common.{◌≡◌, ℕ, zero, suc, ◌+◌, ◌-◌, ◌<◌, ◌≤◌, Bool, true, false, cond, List, Some, None, nat_lt, refl, sym, ◌∙◌, ap, ap₂, arith, ⊎_elim}
 use Rattle.std.proofs.lemmas.Bool.{false≢true, cases_lt}
 use Rattle.vf_base.specs.declared.run.Limits.{Limits}
-use Rattle.vf_base.specs.declared.run.Outcome.{Outcome}
 use Rattle.vf_base.specs.declared.run.Outcome.TheVariants.{Done, Pages}
 use Rattle.vf_machine.specs.Machine.{Machine}
 use Rattle.vf_machine.specs.Search.{first, count_below}

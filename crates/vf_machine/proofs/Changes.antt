@@ -1,51 +1,23 @@
 -- What writes leave at an address, and on a page.
-use Rattle.std.proofs.Common.{◌≡◌, ◌≢◌, ℕ, zero, suc, ◌+◌, ◌*◌, ◌/◌, ◌%◌, ◌<◌, ◌≤◌, Bool, true, false, not, ◌&&◌, ◌||◌, cond, ◌==◌, nat_le, List, [], ◌∷◌, length, Option, Some, None, unwrap_or, slice_index, slice_set, get_or, set, refl, sym, ◌∙◌, ap, subst, arith, ⊎_elim}
-use Rattle.std.proofs.lemmas.Bool.{false≢true, cases_lt, leb-true, eqb-true, eqb-false, eq-eqb}
+use Rattle.std.proofs.Common.{◌≡◌, ◌≢◌, ℕ, zero, suc, ◌+◌, ◌*◌, ◌/◌, ◌%◌, ◌<◌, ◌≤◌, Bool, true, false, not, ◌||◌, cond, ◌==◌, nat_le, List, [], ◌∷◌, length, Option, Some, None, unwrap_or, slice_index, slice_set, refl, sym, ◌∙◌, ap, arith, ⊎_elim}
+use Rattle.std.proofs.lemmas.Bool.{false≢true, cases_lt, leb-true, eqb-true, eqb-false, eq-eqb, ne_eqb, or_left, or_right, or_cases, and_parts, not-true}
 use Rattle.std.proofs.lemmas.List.{get_or-set_same, get_or-set_other, length-set, get_or_past}
 use Rattle.vf_machine.specs.Search.{any_below}
 use Rattle.vf_machine.specs.Writes.{IsChange, AllChange, rises_from, written, writes_page}
-use Rattle.vf_machine.specs.Pages.{page_differs}
+use Rattle.vf_base.specs.declared.run.Limits.{Limits}
+use Rattle.vf_machine.specs.Machine.{Machine}
+use Rattle.vf_machine.specs.Run.{words_at}
+use Rattle.vf_machine.specs.Pages.{page_differs, is_touched}
 use Rattle.vf_machine.specs.Laws.{ChangedPages}
-
-or_left : (a b : Bool) → a ≡ true → a || b ≡ true
-or_left true b h = refl
-or_left false b h = absurd (false≢true h)
-
-or_right : (a b : Bool) → b ≡ true → a || b ≡ true
-or_right true b h = refl
-or_right false b h = h
-
-or_cases : {P : Type 0} (a b : Bool) → (a ≡ true → P) → (b ≡ true → P) → a || b ≡ true → P
-or_cases true b f g h = f refl
-or_cases false b f g h = g h
-
-and_first : (a b : Bool) → a && b ≡ true → a ≡ true
-and_first true b h = refl
-and_first false b h = h
-
-and_second : (a b : Bool) → a && b ≡ true → b ≡ true
-and_second true b h = h
-and_second false b h = absurd (false≢true h)
 
 same_truth : (a b : Bool) → (a ≡ true → b ≡ true) → (b ≡ true → a ≡ true) → a ≡ b
 same_truth true b f g = sym (f refl)
 same_truth false true f g = g refl
 same_truth false false f g = refl
 
-not_true : (a : Bool) → not a ≡ true → a ≡ false
-not_true true h = absurd (false≢true h)
-not_true false h = refl
-
 true_not : (a : Bool) → a ≡ false → not a ≡ true
 true_not true h = absurd (false≢true (sym h))
 true_not false h = refl
-
-false_by : (t : Bool) → (t ≡ true → ⊥) → t ≡ false
-false_by true h = absurd (h refl)
-false_by false h = refl
-
-differ-eqb : (a b : ℕ) → a ≢ b → (a == b) ≡ false
-differ-eqb a b h = false_by (a == b) (λ e. h (eqb-true a b e))
 
 -- a search for one that passes
 pub any_here : (p : ℕ → Bool) (n i : ℕ) → i < n → p i ≡ true → any_below p n ≡ true
@@ -65,9 +37,10 @@ pub any_found : (p : ℕ → Bool) (n : ℕ) → any_below p n ≡ true → Pass
 unfolding any_below
 any_found p zero h = absurd (false≢true h)
 any_found p (suc n) h =
-    or_cases (any_below p n) (p n)
+    ⊎_elim
     (λ earlier. let found = any_found p n earlier in record { at = found.at; below = omega (arith, found.below); here = found.here })
-    (λ here. record { at = n; below = omega arith; here = here }) h
+    (λ here. record { at = n; below = omega arith; here = here })
+    (or_cases (any_below p n) (p n) h)
 
 -- the value that is written at an address
 abbrev lookup : List (ℕ × ℕ) → ℕ → Option ℕ
@@ -78,9 +51,9 @@ lookup (write ∷ more) at = cond (write.0 == at) (Some write.1) (lookup more at
 lookup_low : (from at : ℕ) (writes : List (ℕ × ℕ)) → rises_from from writes ≡ true → at < from → lookup writes at ≡ None
 lookup_low from at [] rises low = refl
 lookup_low from at (write ∷ more) rises low =
-    let above = leb-true from write.0 (and_first (nat_le from write.0) (rises_from (suc write.0) more) rises) in
-    ap (λ b. cond b (Some write.1) (lookup more at)) (differ-eqb write.0 at (λ same. omega arith))
-    ∙ lookup_low (suc write.0) at more (and_second (nat_le from write.0) (rises_from (suc write.0) more) rises) (omega arith)
+    let above = leb-true from write.0 (and_parts (nat_le from write.0) (rises_from (suc write.0) more) rises).0 in
+    ap (λ b. cond b (Some write.1) (lookup more at)) (ne_eqb write.0 at (λ same. omega arith))
+    ∙ lookup_low (suc write.0) at more (and_parts (nat_le from write.0) (rises_from (suc write.0) more) rises).1 (omega arith)
 
 written_by : (b : Bool) (words : List ℕ) (write : ℕ × ℕ) (more : List (ℕ × ℕ)) (at : ℕ) → (write.0 == at) ≡ b → rises_from (suc write.0) more ≡ true → at < length words
     → unwrap_or (lookup more at) (slice_index (slice_set words write.0 write.1) at) ≡ unwrap_or (cond b (Some write.1) (lookup more at)) (slice_index words at)
@@ -96,7 +69,7 @@ written_at : (words : List ℕ) (writes : List (ℕ × ℕ)) (from at : ℕ) →
     → slice_index (written words writes) at ≡ unwrap_or (lookup writes at) (slice_index words at)
 written_at words [] from at rises within = refl
 written_at words (write ∷ more) from at rises within =
-    let later = and_second (nat_le from write.0) (rises_from (suc write.0) more) rises in
+    let later = (and_parts (nat_le from write.0) (rises_from (suc write.0) more) rises).1 in
     let rest = written_at (slice_set words write.0 write.1) more (suc write.0) at later (omega (arith, length-set words write.0 write.1)) in
     rest ∙ written_by (write.0 == at) words write more at refl later within
 
@@ -139,20 +112,20 @@ record HasWrite (writes : List (ℕ × ℕ)) (from page : ℕ) : Type 0 where
 address_on_page : (writes : List (ℕ × ℕ)) (from page : ℕ) → rises_from from writes ≡ true → writes_page writes page ≡ true → HasWrite writes from page
 address_on_page [] from page rises h = absurd (false≢true h)
 address_on_page (write ∷ more) from page rises h =
-    let first = leb-true from write.0 (and_first (nat_le from write.0) (rises_from (suc write.0) more) rises) in
-    let later = and_second (nat_le from write.0) (rises_from (suc write.0) more) rises in
-    or_cases (write.0 / 64 == page) (writes_page more page)
+    let first = leb-true from write.0 (and_parts (nat_le from write.0) (rises_from (suc write.0) more) rises).0 in
+    let later = (and_parts (nat_le from write.0) (rises_from (suc write.0) more) rises).1 in
+    ⊎_elim
     (λ here. record { at = write.0; value = write.1; is = ap (λ b. cond b (Some write.1) (lookup more write.0)) (eq-eqb write.0 write.0 refl); on = eqb-true (write.0 / 64) page here; above = first })
     (λ there.
     let found = address_on_page more (suc write.0) page later there in
     record {
       at = found.at;
       value = found.value;
-      is = ap (λ b. cond b (Some write.1) (lookup more found.at)) (differ-eqb write.0 found.at (λ same. omega (arith, found.above))) ∙ found.is;
+      is = ap (λ b. cond b (Some write.1) (lookup more found.at)) (ne_eqb write.0 found.at (λ same. omega (arith, found.above))) ∙ found.is;
       on = found.on;
       above = omega (arith, found.above, first);
     })
-    h
+    (or_cases (write.0 / 64 == page) (writes_page more page) h)
 
 -- an address where nothing is written keeps its word
 kept_unwritten : (before after : List ℕ) (writes : List (ℕ × ℕ)) (at : ℕ) → IsChange before after writes → at < length before → lookup writes at ≡ None
@@ -177,7 +150,7 @@ kept_by before after writes at change none =
 page_from_words : (before after : List ℕ) (writes : List (ℕ × ℕ)) (page at : ℕ) (found : Option ℕ) → IsChange before after writes → at < 64
     → lookup writes (64 * page + at) ≡ found → not (slice_index before (64 * page + at) == slice_index after (64 * page + at)) ≡ true → writes_page writes page ≡ true
 page_from_words before after writes page at None change below is here =
-    absurd (eqb-false _ _ (not_true _ here) (kept_by before after writes (64 * page + at) change is))
+    absurd (eqb-false _ _ (not-true _ here) (kept_by before after writes (64 * page + at) change is))
 page_from_words before after writes page at (Some value) change below is here =
     let on : (64 * page + at) / 64 ≡ page = omega arith in
     ap (writes_page writes) (sym on) ∙ page_of_address writes (64 * page + at) value is
@@ -192,7 +165,7 @@ words_from_page before after writes page change h =
     let differ : slice_index before (64 * page + found.at % 64) ≢ slice_index after (64 * page + found.at % 64) =
     λ same. written_there.differs (ap (slice_index before) (sym place) ∙ same ∙ ap (slice_index after) place ∙ now) in
     any_here (λ at. not (slice_index before (64 * page + at) == slice_index after (64 * page + at))) 64 (found.at % 64) (omega arith)
-    (true_not _ (differ-eqb _ _ differ))
+    (true_not _ (ne_eqb _ _ differ))
 
 pub changed_pages_lem : ChangedPages
 changed_pages_lem before after writes page change =
@@ -201,3 +174,13 @@ changed_pages_lem before after writes page change =
     let found = any_found (λ at. not (slice_index before (64 * page + at) == slice_index after (64 * page + at))) 64 h in
     page_from_words before after writes page found.at (lookup writes (64 * page + found.at)) change found.below refl found.here)
     (words_from_page before after writes page change)
+
+-- no turn, no page; one turn more, and the pages that it changes
+pub is_touched-zero : {S : Type 0} (m : Machine S) (stim : List ℕ) (limits : Limits) (page : ℕ) → is_touched m stim limits 0 page ≡ false
+unfolding is_touched
+is_touched-zero m stim limits page = refl
+
+pub is_touched-suc : {S : Type 0} (m : Machine S) (stim : List ℕ) (limits : Limits) (k page : ℕ)
+    → is_touched m stim limits (suc k) page ≡ is_touched m stim limits k page || page_differs (words_at m stim limits k) (words_at m stim limits (suc k)) page
+unfolding is_touched
+is_touched-suc m stim limits k page = refl

@@ -1,9 +1,9 @@
 -- What every move of a machine keeps holds in each moment of its runs.
-use Rattle.std.proofs.Common.{◌≡◌, ℕ, zero, suc, ◌<◌, Bool, true, false, List, Option, Some, None, cond, refl, sym, ap, subst, arith, get_or, nat_lt, nat_le, slice_get, IfSome}
+use Rattle.std.proofs.Common.{◌≡◌, ℕ, zero, suc, ◌<◌, Bool, true, false, List, Option, Some, None, cond, refl, sym, subst, arith, get_or, nat_lt, nat_le, slice_get, IfSome}
 use Rattle.std.proofs.lemmas.Option.{get_or_from_slice_get}
 use Rattle.vf_base.specs.declared.run.Limits.{Limits}
 use Rattle.vf_machine.specs.Machine.{Machine, Move, go, stop, Sight}
-use Rattle.vf_machine.specs.Run.{Moment, Turned, moment_at, turn_at, turn_of, free_turn, performed, sight_at}
+use Rattle.vf_machine.specs.Run.{Moment, moment_at, turn_of, free_turn, performed, sight_at}
 use Rattle.vf_machine.specs.Laws.{IsStimulus}
 use Rattle.vf_machine.proofs.Runs.{moment_at-zero, moment_at-suc, branches, branches_free}
 

@@ -5,3 +5,4 @@ pub mod Ends
 pub mod Kept
 pub mod Changes
 pub mod AloneLemmas
+pub mod CallerLemmas

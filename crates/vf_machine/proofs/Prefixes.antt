@@ -1,10 +1,10 @@
 -- The prefix law.
-use Rattle.std.proofs.Common.{◌≡◌, ℕ, zero, suc, ◌+◌, ◌<◌, ◌≤◌, Bool, true, false, List, [], ◌∷◌, ◌++◌, length, take, Option, Some, None, cond, refl, sym, ◌∙◌, ap, ap₂, arith, ⊎_elim, nat_lt, ltb, slice_get}
+use Rattle.std.proofs.Common.{◌≡◌, ℕ, zero, suc, ◌+◌, ◌<◌, ◌≤◌, Bool, true, false, List, [], ◌∷◌, ◌++◌, length, take, None, cond, refl, sym, ◌∙◌, ap, ap₂, arith, ⊎_elim, nat_lt, slice_get}
 use Rattle.std.proofs.lemmas.Bool.{le-ltb, cases_lt}
 use Rattle.vf_base.specs.declared.run.Limits.{Limits}
-use Rattle.vf_machine.specs.Machine.{Machine, Sight}
-use Rattle.vf_machine.specs.Run.{Moment, Turned, moment_at, text_at, turn_at, turn_of, free_turn, performed, ended_before, sight_at, mark_at, is_limit}
-use Rattle.vf_machine.specs.Laws.{IsUnlimited, SameFor, PrefixLaw}
+use Rattle.vf_machine.specs.Machine.{Machine}
+use Rattle.vf_machine.specs.Run.{Moment, Turned, moment_at, turn_at, free_turn, performed, sight_at, mark_at, is_limit}
+use Rattle.vf_machine.specs.Laws.{PrefixLaw}
 use Rattle.vf_machine.proofs.Runs.{moment_at-zero, moment_at-suc, text_at-zero, text_at-suc, unlimited, performed-reads, reads_grow}
 
 -- what lies below n is the same where the first n are
@@ -36,7 +36,7 @@ same_free_by true x p q n h f = refl
 same_free_by false x p q n h f = f h
 
 -- a turn without limits that reads no further than both stimuli agree
-same_free : {S : Type 0} (m : Machine S) (a b : List ℕ) (now : Moment S) (n : ℕ) → n ≤ length a → n ≤ length b → take n a ≡ take n b
+pub same_free : {S : Type 0} (m : Machine S) (a b : List ℕ) (now : Moment S) (n : ℕ) → n ≤ length a → n ≤ length b → take n a ≡ take n b
     → (free_turn m a now).after.header.reads ≤ n → free_turn m a now ≡ free_turn m b now
 same_free m a b now n la lb e h =
     same_free_by (m.drained now.state) _ _ _ n h

@@ -1,9 +1,11 @@
 -- Moments of a run, one turn after another.
-use Rattle.std.proofs.Common.{◌≡◌, ℕ, zero, suc, ◌+◌, ◌≤◌, Bool, true, false, List, [], ◌++◌, cond, refl, sym, ◌∙◌, ap, arith, nat_lt, nat_le}
-use Rattle.std.proofs.lemmas.Bool.{false≢true}
+use Rattle.std.proofs.Common.{◌≡◌, ℕ, zero, suc, ◌+◌, ◌<◌, ◌≤◌, Bool, true, false, List, [], ◌++◌, cond, refl, sym, ◌∙◌, ap, arith, nat_lt, nat_le}
+use Rattle.std.proofs.lemmas.Bool.{false≢true, le-ltb, lt-leb}
 use Rattle.vf_base.specs.declared.run.Limits.{Limits}
-use Rattle.vf_machine.specs.Machine.{Machine, Move, go, stop, Sight}
-use Rattle.vf_machine.specs.Run.{Moment, Turned, moment_at, text_at, turn_at, turn_of, free_turn, performed, ended_before, cut_off, sight_at, at_zero, is_limit, is_ending}
+use Rattle.vf_machine.specs.declared.mark.Mark.{Mark}
+use Rattle.vf_machine.specs.declared.mark.Mark.TheVariants.{Plain, Saved, Ended}
+use Rattle.vf_machine.specs.Machine.{Machine, Move, go, stop}
+use Rattle.vf_machine.specs.Run.{Moment, Turned, moment_at, text_at, turn_at, turn_of, free_turn, performed, sight_at, at_zero, is_limit, is_ending}
 
 pub moment_at-zero : {S : Type 0} (m : Machine S) (stim : List ℕ) (limits : Limits) → moment_at m stim limits 0 ≡ at_zero m
 unfolding moment_at
@@ -80,3 +82,60 @@ reads_once m stim limits now =
     _ _ _ _ (omega arith) (omega arith) (omega arith)
     (branches_free (ReadsOnce now) (m.drained now.state) _ _ (omega arith)
     (omega (arith, performed-reads m now (m.move (sight_at m stim now) now.state), once (m.at_read now.state))))
+
+-- no turn lowers the bytes written
+abbrev Writes : {S : Type 0} → Moment S → Turned S → Type 0
+Writes now t = now.header.written ≤ t.after.header.written
+
+performed-writes : {S : Type 0} (m : Machine S) (now : Moment S) (move : Move S) → Writes now (performed m now move)
+performed-writes m now (go state text save) = omega arith
+performed-writes m now (stop ending) = omega arith
+
+pub written_grows : {S : Type 0} (m : Machine S) (stim : List ℕ) (limits : Limits) (now : Moment S) → now.header.written ≤ (turn_of m stim limits now).after.header.written
+written_grows m stim limits now =
+    branches (Writes now) (m.drained now.state) (nat_le limits.turns now.header.turns) (nat_lt limits.output (free_turn m stim now).after.header.written)
+    _ _ _ _ (omega arith) (omega arith) (omega arith)
+    (branches_free (Writes now) (m.drained now.state) _ _ (omega arith) (performed-writes m now (m.move (sight_at m stim now) now.state)))
+
+-- what no turn lowers is never lower later
+no_lower : (a b c d : ℕ) → a ≤ b → b ≤ c → d ≡ c → a ≤ d
+no_lower a b c d ab bc dc = omega (arith, ab, bc, dc)
+
+plus_suc : (j n : ℕ) → j + suc n ≡ suc (j + n)
+plus_suc j n = omega arith
+
+plus_zero : (j : ℕ) → j + 0 ≡ j
+plus_zero j = omega arith
+
+itself : (n : ℕ) → n ≤ n
+itself n = omega arith
+
+pub later : {S : Type 0} (f : Moment S → ℕ) (m : Machine S) (stim : List ℕ) (limits : Limits) → ((now : Moment S) → f now ≤ f (turn_of m stim limits now).after)
+    → (j n : ℕ) → f (moment_at m stim limits j) ≤ f (moment_at m stim limits (j + n))
+later f m stim limits grows j zero =
+    let x = f (moment_at m stim limits j) in
+    no_lower x x x (f (moment_at m stim limits (j + 0))) (itself x) (itself x) (ap (λ k. f (moment_at m stim limits k)) (plus_zero j))
+later f m stim limits grows j (suc n) =
+    no_lower (f (moment_at m stim limits j)) (f (moment_at m stim limits (j + n))) (f (turn_at m stim limits (j + n)).after) (f (moment_at m stim limits (j + suc n)))
+    (later f m stim limits grows j n) (grows (moment_at m stim limits (j + n)))
+    (ap (λ k. f (moment_at m stim limits k)) (let k : j + suc n ≡ suc (j + n) = plus_suc j n in k) ∙ ap f (moment_at-suc m stim limits (j + n)))
+
+-- a turn within the limits is the turn without limits
+within_by : {S : Type 0} (d t o : Bool) (x y z p : Turned S) → t ≡ false → o ≡ false → cond d x (cond t y (cond o z (cond d x p))) ≡ cond d x p
+within_by true t o x y z p ht ho = refl
+within_by false true o x y z p ht ho = absurd (false≢true (sym ht))
+within_by false false true x y z p ht ho = absurd (false≢true (sym ho))
+within_by false false false x y z p ht ho = refl
+
+pub within_limits : {S : Type 0} (m : Machine S) (stim : List ℕ) (limits : Limits) (now : Moment S) → now.header.turns < limits.turns
+    → (free_turn m stim now).after.header.written ≤ limits.output → turn_of m stim limits now ≡ free_turn m stim now
+within_limits m stim limits now t o =
+    within_by (m.drained now.state) (nat_le limits.turns now.header.turns) (nat_lt limits.output (free_turn m stim now).after.header.written)
+    _ _ _ (performed m now (m.move (sight_at m stim now) now.state))
+    (lt-leb limits.turns now.header.turns t) (le-ltb limits.output (free_turn m stim now).after.header.written o)
+
+-- a turn that goes on was ended by no limit
+pub no_limit : (mark : Mark) → is_ending mark ≡ false → is_limit mark ≡ false
+no_limit Plain h = refl
+no_limit (Saved kind) h = refl
+no_limit (Ended ending) h = cc

@@ -1,7 +1,7 @@
 -- What a search below a bound finds.
-use Rattle.std.proofs.Common.{◌≡◌, ℕ, zero, suc, ◌+◌, ◌<◌, ◌≤◌, Bool, true, false, Option, Some, None, cond, refl, sym, ◌∙◌, ap, arith, ⊎_elim}
+use Rattle.std.proofs.Common.{◌≡◌, ℕ, zero, suc, ◌<◌, Bool, true, false, Option, Some, None, cond, refl, sym, ◌∙◌, ap, arith, ⊎_elim}
 use Rattle.std.proofs.lemmas.Bool.{cases_lt, false≢true}
-use Rattle.vf_machine.specs.Search.{first, any_below, count_below}
+use Rattle.vf_machine.specs.Search.{first}
 
 -- the least number below the bound that passes
 pub record IsFirst (p : ℕ → Bool) (n i : ℕ) : Type 0 where

@@ -1,6 +1,6 @@
 -- The limits of the jobs that reach nodes.
 use Rattle.std.proofs.Common.{◌≡◌, ℕ, zero, suc, ◌+◌, ◌<◌, ◌≤◌, Bool, true, false, ◌&&◌, nat_lt, nat_le, if◌then◌else◌, List, [], ◌∷◌, length, Option, Some, None, IfSome, refl, sym, ◌∙◌, ap, ap₂, subst, arith, slice_get, unwrap_or, option_map, get_or, slice_set, drop, take, replicate, ◌==◌, ◌||◌}
-use Rattle.std.proofs.lemmas.Bool.{leb-true, le-leb, ltb-true, ltb-false, eqb-true, eqb-false}
+use Rattle.std.proofs.lemmas.Bool.{leb-true, le-leb, ltb-true, ltb-false, eqb-true, eqb-false, and_parts}
 use Rattle.std.proofs.lemmas.List.{get_or-set_same, get_or-set_other, get_or_default, drop_more, drop_all, length-replicate}
 use Rattle.std.proofs.lemmas.Option.{slice_get_within, get_or_from_slice_get}
 use Rattle.vf_base.specs.declared.names.Job.{Job}
@@ -77,14 +77,9 @@ module _ (limit_of : Node → ℕ) (here : ℕ → Bool) where
   later : (base : ℕ) (node : Node) (more : List Node) (limit : ℕ) → Reached (base + 1) more limit → Reached base (node ∷ more) limit
   later base node more limit r = record { k = suc r.k; test = r.test; stands = r.stands; tested = r.tested; at = ap here (let j : base + suc r.k ≡ base + 1 + r.k = omega arith in j) ∙ r.at; is = r.is }
 
-  both : (a b : Bool) → (a && b) ≡ true → (a ≡ true) × (b ≡ true)
-  both true true h = (refl, refl)
-  both true false h = cc
-  both false b h = cc
-
   first_one : (base : ℕ) (node : Node) (more : List Node) → (node.test && here base) ≡ true → Reached base (node ∷ more) (limit_of node)
   first_one base node more h =
-      let two = both node.test (here base) h in
+      let two = and_parts node.test (here base) h in
       record { k = 0; test = node; stands = refl; tested = two.0; at = ap here (let j : base + 0 ≡ base = omega arith in j) ∙ two.1; is = refl }
 
   reached_of : (base : ℕ) (node : Node) (more : List Node) (limit : ℕ) (b : Bool) (rest : Option ℕ) → (node.test && here base) ≡ b

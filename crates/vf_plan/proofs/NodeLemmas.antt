@@ -2,7 +2,7 @@
 use Rattle.std.proofs.Common.{◌≡◌, ◌==◌, ℕ, ◌<◌, ◌≤◌, Bool, true, false, List, [], length, Option, Some, None, Result, Ok, Err, refl, sym, ◌∙◌, ap, subst, arith, position, ◌||◌, ◌&&◌, nat_lt, nat_le, unwrap_or, IfSome, if◌then◌else◌, codes, is_some}
 use Rattle.std.specs.List.{position_or_len}
 use Rattle.std.specs.Str.{bytes_eq}
-use Rattle.std.proofs.lemmas.Bool.{leb-true, ltb-true, ltb-false}
+use Rattle.std.proofs.lemmas.Bool.{leb-true, ltb-true, ltb-false, and_parts, or_parts}
 use Rattle.hex.specs.Hex.{decode_of}
 use Rattle.hex.specs.declared.error.FromHexError.{FromHexError}
 use Rattle.hex.proofs.HexLemmas.{decode_of-ok}
@@ -46,14 +46,6 @@ allowed : {A K : Type 0} (b : Bool) (k : K) (r : Result A K) (y : A) → (if b t
 allowed true k r y h = cc
 allowed false k r y h = (refl, h)
 
-both : (a b : Bool) → (a && b) ≡ true → (a ≡ true) × (b ≡ true)
-both true b h = (refl, h)
-both false b h = cc
-
-neither : (a b : Bool) → (a || b) ≡ false → (a ≡ false) × (b ≡ false)
-neither true b h = cc
-neither false b h = (refl, h)
-
 -- ---- the form
 
 range : (least most : ℕ) (found : Option Data) (n : ℕ) → whole_in least most found ≡ Some (Some n) → (least ≤ n) × (n ≤ most)
@@ -62,7 +54,7 @@ range least most (Some value) n h =
     let step = bind_some (form.◌>>=◌ (as_number value) as_u64) (in_range least most) (Some n) h in
     let test = checked (nat_le least step.0 && nat_le step.0 most) (Some step.0) (Some n) step.2 in
     let same = some_is step.0 n test.1 in
-    let ends = both (nat_le least step.0) (nat_le step.0 most) test.0 in
+    let ends = and_parts (nat_le least step.0) (nat_le step.0 most) test.0 in
     (let low = leb-true least step.0 ends.0 in omega (arith, same, low), let high = leb-true step.0 most ends.1 in omega (arith, same, high))
 
 -- a node's own limits
@@ -89,7 +81,7 @@ unfolding marks_of
 marked version node marks h =
     let a = bind_some (truth_in (get (codes "test") node)) _ marks h in
     let b = bind_some (limits_in (has_limits version a.0) node) _ marks a.2 in
-    subst (λ (m : Marks). IsLimited m.test m) (some_is (record b.0 { test = a.0 }) marks b.2) (limited (has_limits version a.0) a.0 node b.0 (λ t. (both (version == 2) a.0 t).1) b.1)
+    subst (λ (m : Marks). IsLimited m.test m) (some_is (record b.0 { test = a.0 }) marks b.2) (limited (has_limits version a.0) a.0 node b.0 (λ t. (and_parts (version == 2) a.0 t).1) b.1)
 
 record IsFormed (texts : Texts) (marks : Marks) : Type 0 where
   pub name : is_name texts.name ≡ true
@@ -106,10 +98,10 @@ formed version value got h =
     let a = bind_some (texts_of value) _ got h in
     let b = bind_some (marks_of version value) _ got a.2 in
     let c = checked (has_members (known_keys (has_limits version b.0.test) value) value && is_lawful a.0) (a.0, b.0) got b.2 in
-    let lawful = (both (has_members (known_keys (has_limits version b.0.test) value) value) (is_lawful a.0) c.0).1 in
-    let name = both (is_name a.0.name) _ lawful in
-    let one = both (is_one a.0.text a.0.hex) _ name.1 in
-    let rest = both (form.at_most_one a.0.expect_text a.0.expect) _ one.1 in
+    let lawful = (and_parts (has_members (known_keys (has_limits version b.0.test) value) value) (is_lawful a.0) c.0).1 in
+    let name = and_parts (is_name a.0.name) _ lawful in
+    let one = and_parts (is_one a.0.text a.0.hex) _ name.1 in
+    let rest = and_parts (form.at_most_one a.0.expect_text a.0.expect) _ one.1 in
     subst (λ (g : Texts × Marks). IsFormed g.0 g.1) c.1 (record { name = name.0; some = below_root a.0.after _ rest.1; limits = marked version value b.0 b.1 })
 
 -- ---- the parts
@@ -177,8 +169,8 @@ is_bounded before node got h =
     let path = path_to before node in
     let a = allowed (nat_lt 65536 (length node.segment) || (nat_lt 1048576 path.bytes || is_long node.expect)) kinds.TooLong _ got h in
     let b = allowed (nat_lt 64 path.nodes) kinds.TooDeep (Ok node) got a.1 in
-    let c = neither (nat_lt 65536 (length node.segment)) (nat_lt 1048576 path.bytes || is_long node.expect) a.0 in
-    let d = neither (nat_lt 1048576 path.bytes) (is_long node.expect) c.1 in
+    let c = or_parts (nat_lt 65536 (length node.segment)) (nat_lt 1048576 path.bytes || is_long node.expect) a.0 in
+    let d = or_parts (nat_lt 1048576 path.bytes) (is_long node.expect) c.1 in
     (ok_is node got (Ok node) (Ok got) refl refl b.1, record { segment = ltb-false 65536 (length node.segment) c.0; bytes = ltb-false 1048576 path.bytes d.0; depth = ltb-false 64 path.nodes b.0; expect = short node.expect d.1 })
 
 -- ---- the node

@@ -1,109 +1,17 @@
 -- Up to a save point a run is that of each run below it whose limits the checkpoint fits.
-use Rattle.std.proofs.Common.{◌≡◌, ℕ, zero, suc, ◌+◌, ◌-◌, ◌<◌, ◌≤◌, Bool, true, false, ◌&&◌, nat_lt, nat_le, if◌then◌else◌, cond, List, [], ◌∷◌, ◌++◌, length, Option, Some, None, is_some, refl, sym, ◌∙◌, ap, subst, arith, slice_get, length-append, ⊎_elim}
-use Rattle.std.proofs.lemmas.Bool.{leb-true, le-ltb, lt-leb, eqb-true, false≢true, cases_lt}
+use Rattle.std.proofs.Common.{◌≡◌, ℕ, zero, suc, ◌+◌, ◌-◌, ◌<◌, ◌≤◌, Bool, true, false, nat_le, if◌then◌else◌, List, ◌++◌, length, Option, Some, None, is_some, refl, sym, ◌∙◌, ap, subst, arith, length-append, ⊎_elim}
+use Rattle.std.proofs.lemmas.Bool.{leb-true, eqb-true, and_parts, cases_lt}
 use Rattle.vf_base.specs.declared.run.Limits.{Limits}
 use Rattle.vf_base.specs.declared.run.SaveKind.{SaveKind}
-use Rattle.vf_machine.specs.declared.mark.Mark.{Mark}
-use Rattle.vf_machine.specs.declared.mark.Mark.TheVariants.{Plain, Saved, Ended}
-use Rattle.vf_machine.specs.Machine.{Machine, Move, go, stop}
-use Rattle.vf_machine.specs.Run.{Moment, Turned, moment_at, turn_at, turn_of, free_turn, performed, sight_at, mark_at, is_ending, is_limit}
+use Rattle.vf_machine.specs.Machine.{Machine}
+use Rattle.vf_machine.specs.Run.{Moment, Turned, moment_at, turn_at, turn_of, free_turn, mark_at, is_ending, is_limit}
 use Rattle.vf_machine.specs.Alone.{turns_before_end}
 use Rattle.vf_machine.specs.Laws.{PrefixLaw, RunEnds, IsUnlimited, SameFor}
-use Rattle.vf_machine.proofs.Runs.{moment_at-suc, branches, branches_free, unlimited, performed-reads, reads_grow}
-use Rattle.vf_machine.proofs.Searches.{Finds, IsFirst, first_finds}
-use Rattle.vf_machine.proofs.Ends.{turns_counted}
+use Rattle.vf_machine.proofs.CallerLemmas.{moment_at-suc, unlimited, within_limits, no_limit, same_free, reads_grow, written_grows, later, Finds, IsFirst, first_finds, turns_counted}
 use Rattle.vf_plan.specs.Paths.{joined}
 use Rattle.vf_plan.specs.Jobs.{fits}
 use Rattle.vf_plan.specs.Kinds.{save_of, all_read, save_at, savepoint, SharesItsSavePoint}
 use Rattle.vf_plan.proofs.SubtreeLemmas.{below, begins, descends, same_front}
-
--- ---- what never falls
-
-abbrev Writes : {S : Type 0} → Moment S → Turned S → Type 0
-Writes now t = now.header.written ≤ t.after.header.written
-
-performed-writes : {S : Type 0} (m : Machine S) (now : Moment S) (move : Move S) → Writes now (performed m now move)
-performed-writes m now (go state text save) = omega arith
-performed-writes m now (stop ending) = omega arith
-
-written_grows : {S : Type 0} (m : Machine S) (stim : List ℕ) (limits : Limits) (now : Moment S) → Writes now (turn_of m stim limits now)
-written_grows m stim limits now =
-    branches (Writes now) (m.drained now.state) (nat_le limits.turns now.header.turns) (nat_lt limits.output (free_turn m stim now).after.header.written)
-    _ _ _ _ (omega arith) (omega arith) (omega arith)
-    (branches_free (Writes now) (m.drained now.state) _ _ (omega arith) (performed-writes m now (m.move (sight_at m stim now) now.state)))
-
-no_lower : (a b c d : ℕ) → a ≤ b → b ≤ c → d ≡ c → a ≤ d
-no_lower a b c d ab bc dc = omega (arith, ab, bc, dc)
-
-plus_suc : (j n : ℕ) → j + suc n ≡ suc (j + n)
-plus_suc j n = omega arith
-
-plus_zero : (j : ℕ) → j + 0 ≡ j
-plus_zero j = omega arith
-
-itself : (n : ℕ) → n ≤ n
-itself n = omega arith
-
--- what no turn lowers is never lower later
-later : {S : Type 0} (f : Moment S → ℕ) (m : Machine S) (stim : List ℕ) (limits : Limits) → ((now : Moment S) → f now ≤ f (turn_of m stim limits now).after)
-    → (j n : ℕ) → f (moment_at m stim limits j) ≤ f (moment_at m stim limits (j + n))
-later f m stim limits grows j zero =
-    let x = f (moment_at m stim limits j) in
-    no_lower x x x (f (moment_at m stim limits (j + 0))) (itself x) (itself x) (ap (λ k. f (moment_at m stim limits k)) (plus_zero j))
-later f m stim limits grows j (suc n) =
-    no_lower (f (moment_at m stim limits j)) (f (moment_at m stim limits (j + n))) (f (turn_at m stim limits (j + n)).after) (f (moment_at m stim limits (j + suc n)))
-    (later f m stim limits grows j n) (grows (moment_at m stim limits (j + n)))
-    (ap (λ k. f (moment_at m stim limits k)) (let k : j + suc n ≡ suc (j + n) = plus_suc j n in k) ∙ ap f (moment_at-suc m stim limits (j + n)))
-
--- ---- a turn on a longer stimulus
-
-slice_get-front : (a more : List ℕ) (n : ℕ) → n < length a → slice_get a n ≡ slice_get (a ++ more) n
-slice_get-front [] more n h = absurd (omega (arith, h))
-slice_get-front (x ∷ a) more zero h = refl
-slice_get-front (x ∷ a) more (suc n) h = slice_get-front a more n (omega (arith, h))
-
-same_byte : (reads : Bool) (a more : List ℕ) (n : ℕ) → n + cond reads 1 0 ≤ length a → (if reads then slice_get a n else None) ≡ (if reads then slice_get (a ++ more) n else None)
-same_byte true a more n h = slice_get-front a more n (omega (arith, h))
-same_byte false a more n h = refl
-
-same_sight : {S : Type 0} (m : Machine S) (a more : List ℕ) (now : Moment S) → now.header.reads + cond (m.at_read now.state) 1 0 ≤ length a
-    → sight_at m a now ≡ sight_at m (a ++ more) now
-same_sight m a more now h =
-    let long = length-append a more in
-    let byte = same_byte (m.at_read now.state) a more now.header.reads h in
-    let past : nat_lt (length a) now.header.reads ≡ nat_lt (length (a ++ more)) now.header.reads =
-    le-ltb (length a) now.header.reads (omega (arith, h)) ∙ sym (le-ltb (length (a ++ more)) now.header.reads (omega (arith, h, long))) in
-    λ i. record { byte = byte i; past_end = past i }
-
-same_by : {S : Type 0} (drained : Bool) (x p q : Turned S) (n : ℕ) → (cond drained x p).after.header.reads ≤ n → (p.after.header.reads ≤ n → p ≡ q) → cond drained x p ≡ cond drained x q
-same_by true x p q n h f = refl
-same_by false x p q n h f = f h
-
-same_free : {S : Type 0} (m : Machine S) (a more : List ℕ) (now : Moment S) → (free_turn m a now).after.header.reads ≤ length a → free_turn m a now ≡ free_turn m (a ++ more) now
-same_free m a more now h =
-    same_by (m.drained now.state) _ _ _ (length a) h
-    (λ within. ap (λ sight. performed m now (m.move sight now.state))
-    (same_sight m a more now (omega (arith, within, performed-reads m now (m.move (sight_at m a now) now.state)))))
-
--- ---- a turn within limits
-
-goes_by : {S : Type 0} (d t o : Bool) (x y z p : Turned S) → t ≡ false → o ≡ false → cond d x (cond t y (cond o z (cond d x p))) ≡ cond d x p
-goes_by true t o x y z p ht ho = refl
-goes_by false true o x y z p ht ho = absurd (false≢true (sym ht))
-goes_by false false true x y z p ht ho = absurd (false≢true (sym ho))
-goes_by false false false x y z p ht ho = refl
-
-within_limits : {S : Type 0} (m : Machine S) (stim : List ℕ) (limits : Limits) (now : Moment S) → now.header.turns < limits.turns
-    → (free_turn m stim now).after.header.written ≤ limits.output → turn_of m stim limits now ≡ free_turn m stim now
-within_limits m stim limits now t o =
-    goes_by (m.drained now.state) (nat_le limits.turns now.header.turns) (nat_lt limits.output (free_turn m stim now).after.header.written)
-    _ _ _ (performed m now (m.move (sight_at m stim now) now.state))
-    (lt-leb limits.turns now.header.turns t) (le-ltb limits.output (free_turn m stim now).after.header.written o)
-
-no_limit : (mark : Mark) → is_ending mark ≡ false → is_limit mark ≡ false
-no_limit Plain h = refl
-no_limit (Saved kind) h = refl
-no_limit (Ended ending) h = cc
 
 -- ---- the run below
 
@@ -146,7 +54,9 @@ module _ {S : Type 0} (m : Machine S) (law : PrefixLaw m) (a more : List ℕ) (l
       let after : moment_at m a la (suc k) ≡ (free_turn m a now).after = moment_at-suc m a la k ∙ ap (λ (t : Turned S). t.after) here in
       let reads : (free_turn m a now).after.header.reads ≤ length a =
       let r = reads_so_far (suc k) (omega (arith, h)) in let e = ap (λ (n : Moment S). n.header.reads) after in omega (arith, r, e) in
-      let alike : free_turn m a now ≡ free_turn m (a ++ more) now = same_free m a more now reads in
+      let long = length-append a more in
+      let alike : free_turn m a now ≡ free_turn m (a ++ more) now =
+      same_free m a (a ++ more) now (length a) (omega arith) (omega (arith, long)) (same_front a more) reads in
       let written : (free_turn m (a ++ more) now).after.header.written ≤ lb.output =
       let w = written_so_far (suc k) (omega (arith, h)) in
       let e = ap (λ (n : Moment S). n.header.written) after in
@@ -180,16 +90,11 @@ read_at : {S : Type 0} (m : Machine S) (a : List ℕ) (la : Limits) (t : ℕ) �
 read_at m a la zero h = cc
 read_at m a la (suc t) h = read_by (all_read m a la (suc t)) (save_of (mark_at m a la t)) h
 
-both : (a b : Bool) → (a && b) ≡ true → (a ≡ true) × (b ≡ true)
-both true true h = (refl, refl)
-both true false h = cc
-both false b h = cc
-
 saves : {S : Type 0} (m : Machine S) (a : List ℕ) (la lb : Limits) (t : ℕ) → RunEnds m a la → savepoint m a la ≡ Some t → fits lb (moment_at m a la t).header ≡ true → Saves m a la lb t
 saves m a la lb t ends e f =
     let found : IsFirst (λ t. is_some (save_at m a la t)) (turns_before_end m a la + 1) t =
     subst (Finds (λ t. is_some (save_at m a la t)) (turns_before_end m a la + 1)) e (first_finds (λ t. is_some (save_at m a la t)) (turns_before_end m a la + 1)) in
-    let two = both (nat_le (moment_at m a la t).header.turns lb.turns) (nat_le (moment_at m a la t).header.written lb.output) f in
+    let two = and_parts (nat_le (moment_at m a la t).header.turns lb.turns) (nat_le (moment_at m a la t).header.written lb.output) f in
     let whole : (moment_at m a la t).header.reads ≡ length a = eqb-true (moment_at m a la t).header.reads (length a) (read_at m a la t found.passes) in
     record {
       goes = λ j less. ends.first j (omega (arith, less, found.below));

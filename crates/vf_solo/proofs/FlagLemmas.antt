@@ -2,8 +2,7 @@
 use Rattle.std.proofs.Common.{◌≡◌, ℕ, zero, suc, ◌+◌, ◌<◌, ◌≤◌, Bool, true, false, cond, List, length, replicate, refl, sym, ◌∙◌, ap, arith, slice_set}
 use Rattle.std.proofs.lemmas.List.{get_or-set_same, get_or-set_other, length-set, get_or-replicate, length-replicate}
 use Rattle.vf_machine.specs.Search.{count_below}
-use Rattle.vf_machine.proofs.AloneLemmas.{count_below-le, count_below-more}
-use Rattle.vf_machine.proofs.Searches.{NoneBelow}
+use Rattle.vf_machine.proofs.CallerLemmas.{count_below-le, count_below-more, NoneBelow}
 use Rattle.vf_solo.specs.Flags.{flag_at, flags_set}
 
 pub count_below-none : (p : ℕ → Bool) (n : ℕ) → NoneBelow p n → count_below p n ≡ 0

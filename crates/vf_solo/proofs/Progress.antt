@@ -1,5 +1,5 @@
 -- How far a lone run has come.
-use Rattle.std.proofs.Common.{◌≡◌, ℕ, suc, ◌+◌, ◌-◌, ◌*◌, ◌/◌, ◌<◌, ◌≤◌, Bool, true, false, ◌||◌, ◌==◌, List, [], ◌∷◌, ◌++◌, length, replicate, nat_lt, slice_set, refl, sym, ◌∙◌, ap, ap₂, subst, arith, ⊎_elim}
+use Rattle.std.proofs.Common.{◌≡◌, ℕ, suc, ◌+◌, ◌*◌, ◌/◌, ◌<◌, ◌≤◌, Bool, true, false, ◌||◌, ◌==◌, List, [], ◌∷◌, ◌++◌, length, replicate, nat_lt, slice_set, refl, sym, ◌∙◌, ap, ap₂, subst, arith, ⊎_elim}
 use Rattle.std.proofs.lemmas.Bool.{cases_lt, eqb-true, eqb-false, le-ltb}
 use Rattle.std.proofs.lemmas.List.{get_or-set_same, get_or-set_other, length-set, length-replicate, get_or-replicate}
 use Rattle.vf_base.specs.declared.run.Header.{Header}
@@ -12,17 +12,13 @@ use Rattle.vf_machine.specs.Run.{moment_at, text_at, turn_at, turn_of, mark_at, 
 use Rattle.vf_machine.specs.Pages.{is_touched, pages_touched, page_differs}
 use Rattle.vf_machine.specs.Pages as machine_pages
 use Rattle.vf_machine.specs.Writes.{IsChange, AllChange, written, writes_page}
-use Rattle.vf_machine.proofs.Searches.{NoneBelow, none_below_more}
-use Rattle.vf_machine.proofs.Runs.{reads_once, moment_at-zero, moment_at-suc, text_at-zero, text_at-suc}
-use Rattle.vf_machine.proofs.Ends.{turn-counts}
-use Rattle.vf_machine.proofs.Changes.{changed_pages_lem}
-use Rattle.vf_machine.proofs.AloneLemmas.{KeepsWithin, count_below-ext}
+use Rattle.vf_machine.proofs.CallerLemmas.{NoneBelow, none_below_more, reads_once, moment_at-zero, moment_at-suc, text_at-zero, text_at-suc, turn-counts, changed_pages_lem, is_touched-zero, is_touched-suc, KeepsWithin, count_below-ext}
 use Rattle.vf_design.specs.declared.turn.Turn.{Turn}
-use Rattle.vf_design.specs.Program.{Program, word_count, page_count, IsWellFormed}
-use Rattle.vf_design.specs.State.{State, IsSound}
+use Rattle.vf_design.specs.Program.{Program, page_count, IsWellFormed}
+use Rattle.vf_design.specs.State.{IsSound}
 use Rattle.vf_design.specs.Step.{start}
 use Rattle.vf_design.specs.Words.{words_of, machine_of}
-use Rattle.vf_design.proofs.Sounds.{start_sound}
+use Rattle.vf_design.proofs.CallerLemmas.{start_sound, length-words_of}
 use Rattle.vf_kernel.specs.Turn.{IsTurn}
 use Rattle.vf_solo.proofs.FlagLemmas.{count_below-none}
 use Rattle.vf_solo.specs.Flags.{flag_at, flags_set, marked}
@@ -49,22 +45,8 @@ pub record IsRunning (p : Program) (stim : List ℕ) (limits : Limits) (budget :
   pub flags : (page : ℕ) → page < page_count p → flag_at touched page ≡ is_touched (machine_of p) stim limits k page
   pub within : KeepsWithin (machine_of p) stim limits budget k
 
-pub length-words_of : (p : Program) (s : State) → length (words_of p s) ≡ word_count p
-length-words_of p s =
-    let zeros = length-replicate {A = ℕ} (word_count p - 22) 0 in
-    omega (arith, zeros)
-
 pages_alike : (p : Program) → machine_pages.page_count (words_of p start) ≡ page_count p
 pages_alike p = ap (λ n. (n + 63) / 64) (length-words_of p start) ∙ (let e : (64 * page_count p + 63) / 64 ≡ page_count p = omega arith in e)
-
-is_touched-zero : (p : Program) (stim : List ℕ) (limits : Limits) (page : ℕ) → is_touched (machine_of p) stim limits 0 page ≡ false
-unfolding is_touched
-is_touched-zero p stim limits page = refl
-
-is_touched-suc : (p : Program) (stim : List ℕ) (limits : Limits) (k page : ℕ) → is_touched (machine_of p) stim limits (suc k) page
-    ≡ is_touched (machine_of p) stim limits k page || page_differs (words_at (machine_of p) stim limits k) (words_at (machine_of p) stim limits (suc k)) page
-unfolding is_touched
-is_touched-suc p stim limits k page = refl
 
 -- the flags count the pages touched
 pub flags_count : (p : Program) (stim : List ℕ) (limits : Limits) (touched : List Bool) (k : ℕ) → length touched ≡ page_count p
@@ -106,7 +88,7 @@ running_at_zero p stim limits budget words touched wf words_are touched_is =
     let zero_moment = moment_at-zero m stim limits in
     let pages : length touched ≡ page_count p = ap length touched_is ∙ length-replicate (page_count p) false in
     let flags : (page : ℕ) → page < page_count p → flag_at touched page ≡ is_touched m stim limits 0 page =
-    λ page below. ap (λ fs. flag_at fs page) touched_is ∙ get_or-replicate (page_count p) page false false below ∙ sym (is_touched-zero p stim limits page) in
+    λ page below. ap (λ fs. flag_at fs page) touched_is ∙ get_or-replicate (page_count p) page false false below ∙ sym (is_touched-zero (machine_of p) stim limits page) in
     record {
       header_is = ap (λ now. now.header) zero_moment;
       words_are = ap (λ now. words_of p now.state) zero_moment ∙ sym words_are;
@@ -120,7 +102,7 @@ running_at_zero p stim limits budget words touched wf words_are touched_is =
       within = λ j below.
           let first : j ≡ 0 = omega arith in
           ap (λ i. nat_lt budget (pages_touched m stim limits i)) first
-          ∙ ap (nat_lt budget) (count_below-none (is_touched m stim limits 0) (machine_pages.page_count (words_of p start)) (λ page lt. is_touched-zero p stim limits page))
+          ∙ ap (nat_lt budget) (count_below-none (is_touched m stim limits 0) (machine_pages.page_count (words_of p start)) (λ page lt. is_touched-zero (machine_of p) stim limits page))
           ∙ le-ltb budget 0 (omega arith);
     }
 
@@ -169,7 +151,7 @@ next_flags p stim limits budget words touched header text k next run turn =
     ∙ ap₂ ◌||◌ (run.flags page below)
     (sym (changed_pages_lem words (words_at m stim limits (suc k)) next.writes.items page turn.change)
     ∙ ap (λ ws. page_differs ws (words_at m stim limits (suc k)) page) (sym run.words_are))
-    ∙ sym (is_touched-suc p stim limits k page) in
+    ∙ sym (is_touched-suc (machine_of p) stim limits k page) in
     record { pages = pages; flags = flags; count = flags_count p stim limits (marked touched next.writes.items) (suc k) pages flags }
 
 -- a run goes on by one turn

@@ -3,9 +3,9 @@ use mir.Val.{bool_byte}
 use Rattle.vf_base.specs.declared.run.Header.{Header}
 use Rattle.vf_machine.specs.Writes.{IsChange}
 use Rattle.vf_design.specs.State.{IsSound}
-use Rattle.vf_machine.proofs.Kept.{stimulus_of_bytes}
+use Rattle.vf_machine.proofs.CallerLemmas.{stimulus_of_bytes}
 use Rattle.vf_design.specs.Words.{words_of}
-use Rattle.vf_design.proofs.Sounds.{turn_sound}
+use Rattle.vf_design.proofs.CallerLemmas.{turn_sound}
 use Rattle.vf_kernel.specs.State.{state_of, move_of, bytes_of}
 use Rattle.vf_kernel.specs.Turn.{IsTurn}
 use Rattle.vf_kernel.proofs.TurnLemmas.{go_turn, not_drained}

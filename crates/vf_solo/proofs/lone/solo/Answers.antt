@@ -5,9 +5,7 @@ use Rattle.vf_machine.specs.Run.{moment_at, mark_at, is_ending}
 use Rattle.vf_machine.specs.Writes.{written}
 use Rattle.vf_machine.specs.Alone.{ending_of}
 use Rattle.vf_machine.specs.Pages.{pages_touched}
-use Rattle.vf_machine.proofs.Searches.{none_below_more}
-use Rattle.vf_machine.proofs.Ends.{counts_once, before_limit}
-use Rattle.vf_machine.proofs.AloneLemmas.{alone_ended, alone_passed}
+use Rattle.vf_machine.proofs.CallerLemmas.{none_below_more, counts_once, before_limit, alone_ended, alone_passed}
 use Rattle.vf_design.specs.Program.{page_count}
 use Rattle.vf_design.specs.Words.{machine_of}
 use Rattle.vf_solo.specs.Flags.{flags_set, marked}
