@@ -1,8 +1,4 @@
 pub mod NameLemmas
-pub mod Counting
-pub mod Insides
-pub mod Parts
-pub mod MacroTexts
 pub mod ReaderLemmas
 pub mod PlaceLemmas
 pub mod ReadLemmas

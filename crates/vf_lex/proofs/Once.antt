@@ -3,18 +3,18 @@ use Rattle.std.proofs.Common.{◌≡◌, ℕ, ◌<◌, ◌≤◌, List, length, 
 use Rattle.std.proofs.lemmas.Bool.{both_ways}
 use Rattle.vf_base.specs.declared.names.Place.{Place}
 use Rattle.vf_lexeme.specs.Laws.{BeginsOnce, PassesOnce}
+use Rattle.vf_macro.specs.Laws.{MacroTextsOnce}
+use Rattle.vf_macro.specs.MacroText.{IsMacroText}
 use Rattle.vf_lex.specs.declared.fault.LexFault.{LexFault}
 use Rattle.vf_lex.specs.declared.fault.LexKind.TheVariants.{MacroDepth}
 use Rattle.vf_lex.specs.declared.spot.Spot.{Spot}
 use Rattle.vf_lex.specs.Around.{Around, End, Ended, Stopped, is_taken, with_macro}
 use Rattle.vf_lex.specs.Directives.{Effect, Goes, Defines, Uses, Stops}
 use Rattle.vf_lex.specs.Elements.{taken_effect, passed_effect, Does, taken, passed}
-use Rattle.vf_lex.specs.MacroText.{IsMacroText}
 use Rattle.vf_lex.specs.Places.{moved, nested, before}
 use Rattle.vf_lex.specs.Reads.{fault_at, Reads, ends, goes, defines, uses, use_stops, too_deep, stops}
-use Rattle.vf_lex.proofs.MacroTexts.{text_once}
 
-module _ (begins : BeginsOnce) (passes : PassesOnce) where
+module _ (begins : BeginsOnce) (passes : PassesOnce) (macro_texts : MacroTextsOnce) where
   does_once : (place : Place) (now : Around) (text : List ℕ) (one other : Effect) → Does place now text one
       → Does place now text other → one ≡ other
   does_once place now text one other (taken seen t b e) (taken seen_2 _ c f) = e
@@ -74,7 +74,7 @@ module _ (begins : BeginsOnce) (passes : PassesOnce) where
       (follows spot now text other (Goes next rest) some d s)
   reads_once {spot} {now} {text} {other} (defines name bytes body rest some d t r) s =
       let f = follows spot now text other (Defines name bytes) some d s in
-      let same = text_once passes f.2 t in
+      let same = macro_texts bytes f.0 f.1 body rest f.2 t in
       let again : Reads (moved spot (before text rest)) (with_macro now name (Some body)) rest other =
       subst (λ b. Reads (moved spot (before text rest)) (with_macro now name (Some b)) rest other) same.0
       (subst (λ u. Reads (moved spot (before text u)) (with_macro now name (Some f.0)) u other) same.1 f.3) in

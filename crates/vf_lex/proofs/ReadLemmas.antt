@@ -7,6 +7,7 @@ use Rattle.vf_lexeme.specs.declared.kinds.LexemeFault.TheVariants as faults
 use Rattle.vf_lexeme.specs.declared.kinds.OpenFault.{OpenFault}
 use Rattle.vf_lexeme.specs.declared.kinds.Passed.{Passed}
 use Rattle.vf_lexeme.specs.Lexemes.{Begins, Passes, Refuses}
+use Rattle.vf_macro.specs.MacroText.{IsMacroText}
 use Rattle.vf_lex.specs.declared.directive.Step.{Step}
 use Rattle.vf_lex.specs.declared.fault.LexKind.{LexKind}
 use Rattle.vf_lex.specs.declared.fault.LexKind.TheVariants.{MacroDepth}
@@ -14,7 +15,6 @@ use Rattle.std.proofs.lemmas.Bool.{eqb-true}
 use Rattle.vf_lex.specs.declared.fault.LexFault.{LexFault}
 use Rattle.vf_lex.specs.declared.spot.Spot.{Spot}
 use Rattle.vf_lex.specs.Around.{Around, End, Ended, Stopped, is_taken, with_macro}
-use Rattle.vf_lex.specs.MacroText.{IsMacroText}
 use Rattle.vf_lex.specs.Places.{moved, nested, before}
 use Rattle.vf_lex.specs.Reads.{Reads, fault_at, goes, defines, uses, use_stops, too_deep, stops}
 use Rattle.vf_lex.specs.Answers.{Gives, DoesSo, FailsWith, Carries, StopsAt, seen}

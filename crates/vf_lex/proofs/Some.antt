@@ -7,6 +7,7 @@ use Rattle.vf_lexeme.specs.declared.kinds.TokenKind.{TokenKind}
 use Rattle.vf_lexeme.specs.declared.kinds.Passed.TheVariants as passed_kinds
 use Rattle.vf_lexeme.specs.Laws.{BeginsSome, BeginsTakes, PassesSome, PassesTakes, IsBehind}
 use Rattle.vf_lexeme.specs.Lexemes.{Seen, SeenPassing, Begins, Passes}
+use Rattle.vf_macro.specs.Laws.{MacroTextsSome}
 use Rattle.vf_lex.specs.declared.directive.Branching.{Branching}
 use Rattle.vf_lex.specs.declared.directive.Branching.TheVariants.{Ifdef, Ifndef, Elsif, Else, Endif}
 use Rattle.vf_lex.specs.declared.directive.Directive.{Directive}
@@ -23,7 +24,6 @@ use Rattle.vf_lex.specs.Places.{moved, nested, before}
 use Rattle.vf_lex.specs.Reads.{Reads, fault_at, ends, goes, defines as reads_defines, uses as reads_uses, use_stops, too_deep, stops}
 use Rattle.vf_lex.specs.Tokens.{first_spot, IsTokens, IsFirstFault, stopped, open_end, TokensAreSome}
 use Rattle.vf_lex.proofs.PlaceLemmas.{moved_depth}
-use Rattle.vf_lex.proofs.MacroTexts.{text_some}
 
 -- what the effect leaves to be read is at most so long
 abbrev Leaves : ℕ → Effect → Type 0
@@ -141,7 +141,8 @@ record Found (place : Place) (now : Around) (text : List ℕ) : Type 0 where
   does : Does place now text effect
   leaves : Leaves (length text - 1) effect
 
-module _ (begins : BeginsSome) (begins_takes : BeginsTakes) (passes : PassesSome) (passes_takes : PassesTakes) where
+module _ (begins : BeginsSome) (begins_takes : BeginsTakes) (passes : PassesSome) (passes_takes : PassesTakes)
+    (macro_texts : MacroTextsSome) where
   taken_leaves : (place : Place) (now : Around) (text : List ℕ) (seen : Seen) → Begins text seen
       → Leaves (length text - 1) (taken_effect place now seen)
   taken_leaves place now text (Ok (lexemes.Blank, rest)) b = omega
@@ -207,9 +208,9 @@ module _ (begins : BeginsSome) (begins_takes : BeginsTakes) (passes : PassesSome
       let e = on (moved spot (before text rest)) next rest (moved_depth spot (before text rest)) h
       in (e.0, goes next rest some d e.1)
   behind_ends k inner spot now text (Defines name bytes) deep some d h on =
-      let s = text_some passes bytes in
+      let s = macro_texts bytes in
       let e = on (moved spot (before text s.1)) (with_macro now name (Some s.0)) s.1 (moved_depth spot (before text s.1))
-      (omega (arith, h, s.3)) in
+      (omega (arith, h, ap length s.2.parts, length-append s.2.front s.1)) in
       (e.0, reads_defines name bytes s.0 s.1 some d s.2 e.1)
   behind_ends k inner spot now text (Uses body rest) deep some d h on =
       elim (less_or (spot.depth) 16) [

@@ -2,6 +2,7 @@
 use Rattle.std.proofs.Common.{◌≡◌, ◌≢◌, ℕ, ◌≤◌, List, [], ◌∷◌, ◌++◌, length, get_or, reverse, Result, Ok, Err, IfErr, refl, ap, sym, ◌∙◌, arith}
 use Rattle.std.proofs.lemmas.List.{reverse-append}
 use Rattle.vf_lexeme.specs.Laws.{BeginsOnce, PassesOnce}
+use Rattle.vf_macro.specs.Laws.{MacroTextsOnce}
 use Rattle.vf_lex.specs.declared.fault.LexFault.{LexFault}
 use Rattle.vf_lex.specs.declared.fault.LexKind.TheVariants.{BadCondition, Memory}
 use Rattle.vf_lex.specs.declared.reader.Condition.{Condition}
@@ -30,10 +31,10 @@ pub finished : {X : Type 0} (tokens : X → List Token) (result : Result X LexFa
 finished tokens (Ok x) last text reads f = tt
 finished tokens (Err fault) last text reads f = λ _. open_end last f.0 f.1 reads f.2 f.3
 
-module _ (begins : BeginsOnce) (passes : PassesOnce) where
+module _ (begins : BeginsOnce) (passes : PassesOnce) (macro_texts : MacroTextsOnce) where
   tokens_once : (text : List ℕ) (one other : List Token) → IsTokens text one → IsTokens text other → one ≡ other
   tokens_once text one other a b =
-      let same : Ended a.last ≡ Ended b.last = reads_once begins passes a.reads b.reads in
+      let same : Ended a.last ≡ Ended b.last = reads_once begins passes macro_texts a.reads b.reads in
       let last : a.last ≡ b.last = cc in
       a.tokens_are ∙ ap (λ (l : Around). l.tokens) last ∙ sym b.tokens_are
 
@@ -44,13 +45,14 @@ module _ (begins : BeginsOnce) (passes : PassesOnce) where
       cc
 
   fault_once : (text : List ℕ) (one other : LexFault) → IsFirstFault text one → IsFirstFault text other → one ≡ other
-  fault_once text one other (stopped a) (stopped b) = let same : Stopped one ≡ Stopped other = reads_once begins passes a b in cc
+  fault_once text one other (stopped a) (stopped b) =
+      let same : Stopped one ≡ Stopped other = reads_once begins passes macro_texts a b in cc
   fault_once text one other (stopped a) (open_end last inner outer b open_here is) = let same : Stopped one ≡ Ended
-      last = reads_once begins passes a b in absurd cc
+      last = reads_once begins passes macro_texts a b in absurd cc
   fault_once text one other (open_end last inner outer a open_here is) (stopped b) = let same : Ended last ≡ Stopped
-      other = reads_once begins passes a b in absurd cc
+      other = reads_once begins passes macro_texts a b in absurd cc
   fault_once text one other (open_end last inner outer a here is) (open_end last_2 inner_2 outer_2 b here_2 is_2) =
-      let same : Ended last ≡ Ended last_2 = reads_once begins passes a b in
+      let same : Ended last ≡ Ended last_2 = reads_once begins passes macro_texts a b in
       let same_last : last ≡ last_2 = cc in
       let conditions : inner ++ outer ∷ [] ≡ inner_2 ++ outer_2 ∷ [] = sym here ∙ ap (λ (l : Around). l.conditions) same_last
       ∙ here_2 in
@@ -62,10 +64,10 @@ module _ (begins : BeginsOnce) (passes : PassesOnce) where
   some_last (c ∷ inner) outer e = cc
 
   never_both : (text : List ℕ) (tokens : List Token) (fault : LexFault) → IsTokens text tokens → IsFirstFault text fault → ⊥
-  never_both text tokens fault a (stopped b) = let same : Ended a.last ≡ Stopped fault = reads_once begins passes a.reads b
-      in absurd cc
+  never_both text tokens fault a (stopped b) =
+      let same : Ended a.last ≡ Stopped fault = reads_once begins passes macro_texts a.reads b in absurd cc
   never_both text tokens fault a (open_end last inner outer b here is) =
-      let same : Ended a.last ≡ Ended last = reads_once begins passes a.reads b in
+      let same : Ended a.last ≡ Ended last = reads_once begins passes macro_texts a.reads b in
       let same_last : a.last ≡ last = cc in
       some_last inner outer (sym a.closed ∙ ap (λ (l : Around). l.conditions) same_last ∙ here)
 

@@ -1,11 +1,9 @@
 pub mod Places
 pub mod Names
 pub mod Around
-pub mod MacroText
 pub mod Directives
 pub mod Elements
 pub mod Reads
 pub mod Tokens
 pub mod Inner
-pub mod Scanning
 pub mod Answers

@@ -1,5 +1,6 @@
 -- A text is read to its end, or to the first fault (docs/LANGUAGE.md, "Text and tokens").
 use Rattle.std.specs.Prelude.{◌≡◌, ℕ, ◌<◌, ◌≤◌, List, length, Some}
+use Rattle.vf_macro.specs.MacroText.{IsMacroText}
 use Rattle.vf_lex.specs.declared.fault.LexFault.{LexFault}
 use Rattle.vf_lex.specs.declared.fault.LexKind.{LexKind}
 use Rattle.vf_lex.specs.declared.fault.LexKind.TheVariants.{MacroDepth}
@@ -7,7 +8,6 @@ use Rattle.vf_lex.specs.declared.spot.Spot.{Spot}
 use Rattle.vf_lex.specs.Around.{Around, End, Ended, Stopped, with_macro}
 use Rattle.vf_lex.specs.Directives.{Goes, Defines, Uses, Stops}
 use Rattle.vf_lex.specs.Elements.{Does}
-use Rattle.vf_lex.specs.MacroText.{IsMacroText}
 use Rattle.vf_lex.specs.Places.{moved, nested, before}
 
 abbrev pub fault_at : LexKind → Spot → LexFault

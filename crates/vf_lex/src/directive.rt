@@ -7,10 +7,11 @@ ghost use Rattle.vf_lex.specs.Directives.{Goes, Defines, Uses, branching_of, dir
 ghost use Rattle.vf_lex.specs.Inner.{around};
 
 use crate::LexKind;
-use crate::names::{begins_with, behind_blanks, behind_line, behind_line_blanks, split_name};
+use crate::names::{behind_blanks, behind_line_blanks, split_name};
 use crate::reader::{Condition, Reader};
 use std::alloc::Global;
 use vf_base::Place;
+use vf_macro::{begins_with, behind_line};
 
 /// The directives of conditions.
 #[derive(Clone, Copy, Debug, PartialEq, Eq)]

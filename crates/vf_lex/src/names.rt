@@ -1,19 +1,10 @@
 //! Names behind directives, and the bytes before them.
 
-ghost use Rattle.std.specs.Prelude.{◌≡◌, ◌+◌, ◌≤◌, ◌&&◌, not, ◌==◌, length, take_while};
+ghost use Rattle.std.specs.Prelude.{◌≡◌, ◌≤◌, length, take_while};
 ghost use Rattle.vf_lexeme.specs.Bytes.{is_blank};
-ghost use Rattle.vf_lex.specs.Names.{begins_with, name_of, behind_name, in_line, is_line_blank, behind_blanks, behind_line_blanks, behind_line};
+ghost use Rattle.vf_lex.specs.Names.{name_of, behind_name, is_line_blank, behind_blanks, behind_line_blanks};
 
 use vf_lexeme::{is_blank, name};
-
-pub(crate) fn begins_with(byte: u8, bytes: &[u8]) -> bool
-    ensures { result ≡ begins_with byte bytes.now }
-{
-    match bytes {
-        [first, ..] => *first == byte,
-        [] => false,
-    }
-}
 
 /// The plain name at the front, empty where none begins the bytes, and the bytes behind it.
 pub(crate) fn split_name<'a>(bytes: &'a [u8]) -> (&'a [u8], &'a [u8])
@@ -24,16 +15,10 @@ pub(crate) fn split_name<'a>(bytes: &'a [u8]) -> (&'a [u8], &'a [u8])
     name(bytes)
 }
 
-fn is_in_line(byte: u8) -> bool
-    ensures { result ≡ in_line byte }
-{
-    byte != b'\n'
-}
-
 fn is_line_blank(byte: u8) -> bool
     ensures { result ≡ is_line_blank byte }
 {
-    is_blank(byte) && is_in_line(byte)
+    is_blank(byte) && byte != b'\n'
 }
 
 fn blanks(bytes: &[u8]) -> usize
@@ -51,12 +36,6 @@ fn line_blanks(bytes: &[u8]) -> usize
         .count()
 }
 
-fn line_length(bytes: &[u8]) -> usize
-    ensures { result ≡ length (take_while in_line bytes.now) }
-{
-    bytes.iter().take_while(|byte| is_in_line(**byte)).count()
-}
-
 /// The bytes behind the blanks at the front.
 pub(crate) fn behind_blanks(bytes: &[u8]) -> &[u8]
     ensures rest { result.now ≡ behind_blanks bytes.now }
@@ -71,12 +50,4 @@ pub(crate) fn behind_line_blanks(bytes: &[u8]) -> &[u8]
     ensures behind { length result.now ≤ length bytes.now }
 {
     &bytes[line_blanks(bytes)..]
-}
-
-/// From the end of the line on.
-pub(crate) fn behind_line(bytes: &[u8]) -> &[u8]
-    ensures rest { result.now ≡ behind_line bytes.now }
-    ensures behind { length result.now ≤ length bytes.now }
-{
-    &bytes[line_length(bytes)..]
 }

@@ -1,21 +1,21 @@
 //! Reads a text to its end, or up to its first fault.
 
 ghost use Rattle.std.specs.Prelude.{◌≡◌, ℕ, ◌<◌, ◌≤◌, true, false, List, length, Some, Ok, Err, IfOk};
+ghost use Rattle.vf_macro.specs.MacroText.{IsMacroText};
 ghost use Rattle.vf_lex.specs.Answers.{Gives, seen, left, Keeps, DoesSo, ReadsOne, ReadsAll, HasRoom};
 ghost use Rattle.vf_lex.specs.Around.{is_taken, with_macro};
-ghost use Rattle.vf_lex.specs.MacroText.{IsMacroText};
 ghost use Rattle.vf_lex.specs.Reads.{fault_at};
 ghost use Rattle.vf_lex.specs.Elements.{kind_of, open_kind, takes, Does};
 ghost use Rattle.vf_lex.specs.Inner.{around};
 
 use crate::directive::{Step, directed};
-use crate::macro_text::macro_text;
 use crate::reader::Reader;
 use crate::spot::Spot;
 use crate::{LexFault, LexKind, Token};
 use std::alloc::Global;
 use vf_base::{Memory, Place};
 use vf_lexeme::{Lexeme, LexemeFault, OpenFault, Passed, TokenKind, lexeme, passed};
+use vf_macro::macro_text;
 
 /// How many tokens a text may have.
 const MOST_TOKENS: usize = 1 << 20;

@@ -24,12 +24,12 @@ rises-less low high limit (x ∷ xs) h r =
 
 -- so many numbers fit below the limit
 -- a number at or above the bound of the others stands behind them
-pub rises-last : (low limit above x : ℕ) (xs : List ℕ) → rises low limit xs ≡ true → low ≤ limit → limit ≤ x → x < above → rises low above (xs ++ x ∷ []) ≡ true
-rises-last low limit above x [] r h k l = rises-from low above x [] (omega arith) l refl
-rises-last low limit above x (y ∷ ys) r h k l =
+pub rises-behind : (low limit above x : ℕ) (xs : List ℕ) → rises low limit xs ≡ true → low ≤ limit → limit ≤ x → x < above → rises low above (xs ++ x ∷ []) ≡ true
+rises-behind low limit above x [] r h k l = rises-from low above x [] (omega arith) l refl
+rises-behind low limit above x (y ∷ ys) r h k l =
     let parts = rises-parts low limit y ys r in
     rises-from low above y (ys ++ x ∷ []) parts.0 (omega (arith, parts.1))
-    (rises-last (y + 1) limit above x ys parts.2 (omega (arith, parts.1)) k l)
+    (rises-behind (y + 1) limit above x ys parts.2 (omega (arith, parts.1)) k l)
 
 pub rises-length : (low limit : ℕ) (xs : List ℕ) → rises low limit xs ≡ true → low ≤ limit → low + length xs ≤ limit
 rises-length low limit [] r h = omega arith

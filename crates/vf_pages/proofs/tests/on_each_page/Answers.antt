@@ -2,7 +2,7 @@ use Rattle.std.proofs.Common.{◌≡◌, ◌*◌, ◌+◌, ap, ◌∙◌, true, 
 use Rattle.std.proofs.lemmas.List.{map-append}
 use Rattle.vf_frames.specs.Numbers.{rises}
 use Rattle.vf_pages.specs.Writes.{AreWrites, address}
-use Rattle.vf_pages.proofs.Entries.{rises-last}
+use Rattle.vf_pages.proofs.Entries.{rises-behind}
 use Rattle.vf_pages.proofs.tests.on_each_page.Goals as goal
 
 pub loop-page-init : goal.loop-page-init
@@ -14,7 +14,7 @@ loop-page-preserved c =
     let at = 64 * c.loop-page.page in
     ap (λ ws. rises 0 (64 * (c.loop-page.page + 1)) (map address ws)) c.in_ok-push.ensures.items
     ∙ ap (rises 0 (64 * (c.loop-page.page + 1))) (map-append address before ((at, c.args.value) ∷ []))
-    ∙ rises-last 0 at (64 * (c.loop-page.page + 1)) at (map address before) c.loop-page.invariant (omega arith) (omega arith) (omega arith)
+    ∙ rises-behind 0 at (64 * (c.loop-page.page + 1)) at (map address before) c.loop-page.invariant (omega arith) (omega arith) (omega arith)
 
 pub returns : goal.returns
 returns c =

@@ -1,9 +1,0 @@
-use Rattle.std.proofs.Common.{length}
-use Rattle.vf_lex.proofs.MacroTexts.{ReachesOn}
-use Rattle.vf_lex.proofs.macro_text.behind_text.Given as goal
-
-abbrev pub invariant-parts : goal.invariant-parts
-invariant-parts l = ReachesOn l.fn.bytes l.from
-
-abbrev pub decreases-parts : goal.decreases-parts
-decreases-parts l = length l.from

@@ -1,9 +1,0 @@
-use Rattle.std.proofs.Common.{length}
-use Rattle.vf_lex.proofs.Counting.{CountsOn}
-use Rattle.vf_lex.proofs.macro_text.counted.Given as goal
-
-abbrev pub invariant-loop-first : goal.invariant-loop-first
-invariant-loop-first l = CountsOn l.fn.bytes l.text.items l.rest
-
-abbrev pub decreases-loop-first : goal.decreases-loop-first
-decreases-loop-first l = length l.rest

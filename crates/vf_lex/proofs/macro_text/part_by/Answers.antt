@@ -1,8 +1,0 @@
-use Rattle.vf_lex.proofs.Parts.{quote_front}
-use Rattle.vf_lex.proofs.macro_text.part_by.Goals as goal
-
-pub string-requires : goal.string-requires
-string-requires c = quote_front c.args.kind c.args.bytes.now c.args.behind.now c.requires.kind c.in-Quote.is c.requires.behind
-
-pub returns-in-Quote : goal.returns-in-Quote
-returns-in-Quote c = rw c.in-Quote.is c.string.ensures

@@ -1,0 +1,6 @@
+pub mod LineLemmas
+pub mod Counting
+pub mod Insides
+pub mod Parts
+pub mod MacroTexts
+pub mod CallerLemmas
