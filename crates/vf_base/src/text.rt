@@ -1,4 +1,4 @@
-ghost use Rattle.std.specs.Prelude.{◌≡◌, ◌++◌, IfOk, OnOk, OnErr};
+ghost use Rattle.std.specs.Prelude.{◌≡◌, ◌++◌, take, IfOk, OnOk, OnErr};
 
 use crate::Memory;
 use std::marker::Model;
@@ -37,6 +37,13 @@ impl Text {
         Ok(())
     }
 
+    /// Keeps the first bytes, as many as are told, and drops those behind them. It takes no memory.
+    pub fn truncate(&mut self, len: usize)
+        ensures { self.new ≡ take len self.old }
+    {
+        self.0.truncate(len);
+    }
+
     /// The same bytes again, in memory of their own.
     pub fn copy(&self) -> Result<Text, Memory>
         ensures { IfOk result (λ copy. copy ≡ self.now) }
@@ -55,6 +62,8 @@ mod tests {
         let mut text = Text::new(Vec::from_slice(rt.alloc(), b"out")?);
         text.push_all(b"put")?;
         assert_eq!(rt; text.copy()?.bytes(), b"output".as_slice());
+        text.truncate(3);
+        assert_eq!(rt; text.bytes(), b"out".as_slice());
         Ok(())
     }
 }

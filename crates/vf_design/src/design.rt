@@ -59,7 +59,8 @@ impl Design {
 
 /// The words of the state at time zero.
 pub fn words_at_zero(alloc: Global, design: &Design) -> Result<Vec<u64>, Memory>
-    ensures { IfOk result (λ words. words.items ≡ words_of design.now start) }
+    ensures words { IfOk result (λ words. words.items ≡ words_of design.now start) }
+    ensures formed { IsWellFormed design.now }
 {
     let count = design.word_count();
     let mut words = vec![in alloc; 0u64; count as usize]?;

@@ -4,13 +4,16 @@ pub use Rattle.vf_machine.proofs.Runs.{moment_at-zero, moment_at-suc, text_at-ze
 -- a turn as it is without limits
 pub use Rattle.vf_machine.proofs.Runs.{unlimited, within_limits, no_limit}
 pub use Rattle.vf_machine.proofs.Prefixes.{same_free}
+-- the laws, for proofs that no law function can hand over to
+pub use Rattle.vf_machine.proofs.Prefixes.{prefix}
+pub use Rattle.vf_machine.proofs.Ends.{run_ends_lem}
 -- what a header counts: a turn reads once at most, and no number falls
-pub use Rattle.vf_machine.proofs.Runs.{reads_once, reads_grow, written_grows, later}
+pub use Rattle.vf_machine.proofs.Runs.{performed-reads, reads_once, reads_grow, written_grows, later}
 pub use Rattle.vf_machine.proofs.Ends.{turn-counts, turns_counted, counts_once, before_limit}
 -- what every move of a machine keeps
 pub use Rattle.vf_machine.proofs.Kept.{KeptBy, SeesByte, sees_byte, turn-kept, moments_kept, stimulus_of_bytes}
 -- what a search below a bound finds, and how many numbers pass
-pub use Rattle.vf_machine.proofs.Searches.{IsFirst, NoneBelow, Finds, none_below_more, first_finds}
+pub use Rattle.vf_machine.proofs.Searches.{IsFirst, NoneBelow, Finds, none_below_more, first_finds, first_is}
 pub use Rattle.vf_machine.proofs.AloneLemmas.{count_below-ext, count_below-le, count_below-more}
 -- the pages that writes change, and those that a run has touched
 pub use Rattle.vf_machine.proofs.Changes.{changed_pages_lem, is_touched-zero, is_touched-suc}

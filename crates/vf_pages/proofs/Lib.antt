@@ -15,3 +15,5 @@ pub mod Copying
 pub mod Merging
 pub mod Changes
 pub mod Shuffles
+pub mod Bases
+pub mod CallerLemmas

@@ -1,5 +1,5 @@
 -- Where pages stand in memory.
-use Rattle.std.proofs.Common.{◌≡◌, ◌≢◌, ℕ, suc, ◌+◌, ◌/◌, ◌<◌, ◌≤◌, true, List, [], ◌∷◌, ◌++◌, length, get_or, slice_index, slice_set, take, drop, refl, sym, ap, ap₂, ◌∙◌, arith, ⊎_elim}
+use Rattle.std.proofs.Common.{◌≡◌, ◌≢◌, ℕ, zero, suc, ◌+◌, ◌/◌, ◌<◌, ◌≤◌, true, List, [], ◌∷◌, ◌++◌, length, get_or, slice_index, slice_get, slice_set, take, drop, refl, sym, ap, ap₂, ◌∙◌, arith, ⊎_elim}
 use Rattle.std.specs.Prelude.{Option, Some, None}
 use Rattle.std.specs.List.{insert}
 use Rattle.std.proofs.lemmas.Bool.{cases_lt}
@@ -97,3 +97,9 @@ pub held-place : (hs : List Held) (i p : ℕ) (d : Held) → IsSorted (pages_of 
 held-place hs i p d sorted place =
     entry-place (pages_of hs) i p (page_of d) sorted place
     ∙ ap (λ e. Some e) (get_or-map page_of hs i d (page_of d) (omega (arith, place.within, length-pages hs)))
+
+-- the page at an index
+pub page-get : (hs : List Held) (i : ℕ) (d : Held) → i < length hs → slice_get (pages_of hs) i ≡ Some (page_of (get_or hs i d))
+page-get [] i d h = absurd (omega (arith, h))
+page-get (x ∷ xs) zero d h = refl
+page-get (x ∷ xs) (suc i) d h = page-get xs i d (omega (arith, h))

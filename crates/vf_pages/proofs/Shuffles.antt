@@ -7,7 +7,7 @@ use Rattle.vf_frames.specs.declared.holder.Holder.{Holder}
 use Rattle.vf_frames.specs.Numbers.{has}
 use Rattle.vf_frames.specs.Holders.{Accounts, Counts, Keeps}
 use Rattle.vf_pages.specs.declared.held.Held.{Held}
-use Rattle.vf_pages.specs.Pages.{frame_number, frames_in, occurs, Covers, IsHeld}
+use Rattle.vf_pages.specs.Pages.{frame_number, frames_in, occurs, Covers, IsApart, Takes}
 use Rattle.vf_pages.specs.Views.{page_of, pages_of}
 use Rattle.vf_pages.proofs.Frames.{has-from, occurs-append, occurs-last}
 
@@ -44,6 +44,45 @@ pub accounts-turn : (a : Option (List ℕ)) (x y z : Holder) (os : List Holder) 
 accounts-turn None x y z os c = c
 accounts-turn (Some ns) x y z os c = counts-turn ns x y z os c
 
+counts-outer : (ns : List ℕ) (x y z w : Holder) (os : List Holder) → Counts ns (x ∷ y ∷ z ∷ w ∷ os) → Counts ns (w ∷ y ∷ z ∷ x ∷ os)
+counts-outer ns x y z w os c = record {
+  each = λ f h. omega (arith, c.each f h);
+  parts = omega (arith, c.parts);
+  some_part = (c.some_part.1.1.1.0, (c.some_part.1.0, (c.some_part.1.1.0, (c.some_part.0, c.some_part.1.1.1.1))));
+}
+
+pub accounts-outer : (a : Option (List ℕ)) (x y z w : Holder) (os : List Holder) → Accounts a (x ∷ y ∷ z ∷ w ∷ os) → Accounts a (w ∷ y ∷ z ∷ x ∷ os)
+accounts-outer None x y z w os c = c
+accounts-outer (Some ns) x y z w os c = counts-outer ns x y z w os c
+
+counts-last : (ns : List ℕ) (x y z w : Holder) (os : List Holder) → Counts ns (x ∷ y ∷ z ∷ w ∷ os) → Counts ns (x ∷ y ∷ w ∷ z ∷ os)
+counts-last ns x y z w os c = record {
+  each = λ f h. omega (arith, c.each f h);
+  parts = omega (arith, c.parts);
+  some_part = (c.some_part.0, (c.some_part.1.0, (c.some_part.1.1.1.0, (c.some_part.1.1.0, c.some_part.1.1.1.1))));
+}
+
+pub accounts-last : (a : Option (List ℕ)) (x y z w : Holder) (os : List Holder) → Accounts a (x ∷ y ∷ z ∷ w ∷ os) → Accounts a (x ∷ y ∷ w ∷ z ∷ os)
+accounts-last None x y z w os c = c
+accounts-last (Some ns) x y z w os c = counts-last ns x y z w os c
+
+-- one holder comes to have what a base and what an own holder has
+pub keeps-over : (a b c d : Option (List ℕ)) (own base none some more last : Holder) → Keeps a (base ∷ none ∷ []) b (base ∷ some ∷ []) → Keeps b (own ∷ some ∷ []) c (own ∷ more ∷ [])
+    → Keeps c (more ∷ []) d (last ∷ []) → Keeps a (own ∷ base ∷ none ∷ []) d (own ∷ base ∷ last ∷ [])
+keeps-over a b c d own base none some more last p q r = λ others k.
+    let one = p (own ∷ others) (accounts-behind a base own none others (accounts-swap a own base (none ∷ others) k)) in
+    let two = q (base ∷ others) (accounts-turn b base some own others one) in
+    let three = r (own ∷ base ∷ others) (accounts-swap c own more (base ∷ others) two) in
+    accounts-behind d own last base others (accounts-swap d last own (base ∷ others) three)
+
+-- and is opened before
+pub keeps-fork-over : (a b c : Option (List ℕ)) (own base from from' none last : Holder) → Keeps a (from ∷ []) b (from' ∷ none ∷ []) → Keeps b (own ∷ base ∷ none ∷ []) c (own ∷ base ∷ last ∷ [])
+    → Keeps a (own ∷ base ∷ from ∷ []) c (own ∷ base ∷ from' ∷ last ∷ [])
+keeps-fork-over a b c own base from from' none last opened held = λ others k.
+    let one = opened (base ∷ own ∷ others) (accounts-turn a own base from others k) in
+    let two = accounts-behind b own none base (from' ∷ others) (accounts-outer b from' none base own others one) in
+    accounts-last c own base last from' others (held (from' ∷ others) two)
+
 -- a fork: open from one holder, then let the new one have what another has
 pub keeps-fork : (a b c : Option (List ℕ)) (of from from' new new' : Holder) → Keeps a (from ∷ []) b (from' ∷ new ∷ []) → Keeps b (of ∷ new ∷ []) c (of ∷ new' ∷ []) → Keeps a (of ∷ from ∷ []) c (of ∷ from' ∷ new' ∷ [])
 keeps-fork a b c of from from' new new' opened held = λ others k.
@@ -78,13 +117,16 @@ next-there i hs h frames within is covers =
     let f = h.frame.0 in
     has-from f (has f frames) (omega (arith, covers f, occurs-take f (i + 1) hs, occurs-next f i hs h within is, own-frame f))
 
-pub next-absent : (i : ℕ) (hs : List Held) (h : Held) (all some : List ℕ) → i < length hs → h ≡ get_or hs i h → Covers (pages_of hs) all → IsHeld (pages_of (take i hs)) some → has h.frame.0 some ≡ false
-next-absent i hs h all some within is covers held =
+pub next-absent : (i : ℕ) (hs : List Held) (h : Held) (all old some : List ℕ) → i < length hs → h ≡ get_or hs i h → Covers (pages_of hs) all → IsApart (pages_of hs) old
+    → Takes (pages_of (take i hs)) old some → has h.frame.0 some ≡ false
+next-absent i hs h all old some within is covers apart takes =
     let f = h.frame.0 in
     false_from_ne_true (has f some) (λ t.
     let one = ap (λ b. cond {A = ℕ} b 1 0) t in
     let most = at-most (has f all) in
-    absurd (omega (arith, covers f, most, occurs-take f (i + 1) hs, occurs-next f i hs h within is, own-frame f, held f, one)))
+    let here : 1 ≤ occurs f (frames_in (pages_of hs)) = omega (arith, occurs-take f (i + 1) hs, occurs-next f i hs h within is, own-frame f) in
+    let none = ap (λ b. cond {A = ℕ} b 1 0) (apart f here) in
+    absurd (omega (arith, covers f, most, occurs-take f (i + 1) hs, occurs-next f i hs h within is, own-frame f, takes f, none, one)))
   where
     at-most : (b : Bool) → cond {A = ℕ} b 1 0 ≤ 1
     at-most true = omega arith

@@ -7,8 +7,9 @@ use Rattle.vf_frames.specs.Holders.{total, count}
 use Rattle.vf_frames.specs.Calls.{capped, NoWin, NotesGrow, SameRest, Opened}
 use Rattle.vf_pages.specs.declared.refusal.PageRefusal.{PageRefusal}
 use Rattle.vf_pages.specs.declared.refusal.PageRefusal.TheVariants.{Short, Memory}
-use Rattle.vf_pages.specs.Pages.{Page, Pages, entry, frame_at, word_of}
+use Rattle.vf_pages.specs.Pages.{Page, Pages, entry, or_entry, frame_at, word_of}
 use Rattle.vf_pages.specs.Writes.{touches, written, written_pages}
+use Rattle.vf_pages.specs.Bases.{left_of}
 use Rattle.vf_pages.specs.Needs.{need, new_pages, free_frames, frames_held}
 use Rattle.vf_pages.specs.Gathered.{SeenAlone, ShortNotes}
 
@@ -73,6 +74,27 @@ pub record Forked (of : Pages) (from from' : Holder) (new : Pages) : Type 0 wher
   pub source_parts : from'.parts + 1 ≡ from.parts
   pub source_name : from'.name ≡ from.name
   pub source_notes : NotesGrow NoWin from.notes from'.notes
+
+-- another holder of these pages and of those of a base under them, with one of the parts of `from`
+pub record ForkedOver (of base : Pages) (from from' : Holder) (new : Pages) : Type 0 where
+  pub zero : new.zero ≡ of.zero
+  pub pages : (p : ℕ) → entry p new.pages ≡ or_entry (entry p of.pages) (entry p base.pages)
+  pub misses : new.holder.misses ≡ 0
+  pub parts : new.holder.parts ≡ 1
+  pub name : new.holder.name ≡ of.holder.name
+  pub told : is_some new.holder.notes ≡ is_some from.notes
+  pub source_frames : from'.frames ≡ from.frames
+  pub source_misses : from'.misses ≡ from.misses
+  pub source_parts : from'.parts + 1 ≡ from.parts
+  pub source_name : from'.name ≡ from.name
+  pub source_notes : NotesGrow NoWin from.notes from'.notes
+
+-- the pages are left that the base lacks, or has with other words
+pub record KeptChanged (base old new : Pages) : Type 0 where
+  pub zero : new.zero ≡ old.zero
+  pub pages : (p : ℕ) → entry p new.pages ≡ left_of base.pages (entry p old.pages)
+  pub rest : SameRest old.holder new.holder
+  pub notes : NotesGrow NoWin old.holder.notes new.holder.notes
 
 -- another holder takes the misses and parts, and no frame
 pub record GivenBack (of : Pages) (into into' : Holder) : Type 0 where

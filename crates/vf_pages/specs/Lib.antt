@@ -3,6 +3,7 @@ pub mod Writes
 pub mod Needs
 pub mod Views
 pub mod Puts
+pub mod Bases
 pub mod InPlace
 pub mod Gathered
 pub mod Calls

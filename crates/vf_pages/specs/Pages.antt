@@ -1,5 +1,5 @@
 -- Pages of words, and what a holder's list of them means (docs/FARM.md, "Pages").
-use Rattle.std.specs.Prelude.{◌≡◌, ℕ, ◌+◌, ◌*◌, ◌/◌, ◌%◌, ◌^◌, ◌<◌, ◌≤◌, true, cond, ◌==◌, List, [], ◌∷◌, map, length, slice_index, Option, Some, None}
+use Rattle.std.specs.Prelude.{◌≡◌, ℕ, ◌+◌, ◌*◌, ◌/◌, ◌%◌, ◌^◌, ◌<◌, ◌≤◌, true, false, cond, ◌==◌, List, [], ◌∷◌, map, length, slice_index, slice_get, Option, Some, None}
 use Rattle.std.specs.List.{range_with_len}
 use Rattle.vf_frames.specs.declared.holder.Holder.{Holder}
 use Rattle.vf_frames.specs.Numbers.{has, rises}
@@ -106,3 +106,18 @@ Covers pages frames = (f : ℕ) → occurs f (frames_in pages) ≤ cond (has f f
 -- the frames of these pages leave the list
 abbrev pub Gives : List Page → List ℕ → List ℕ → Type 0
 Gives pages before after = (f : ℕ) → cond (has f after) 1 0 + occurs f (frames_in pages) ≡ cond (has f before) 1 0
+
+-- the list has the frame of none of these pages
+abbrev pub IsApart : List Page → List ℕ → Type 0
+IsApart pages frames = (f : ℕ) → 1 ≤ occurs f (frames_in pages) → has f frames ≡ false
+
+-- the frames of these pages come into the list
+abbrev pub Takes : List Page → List ℕ → List ℕ → Type 0
+Takes pages before after = (f : ℕ) → cond (has f after) 1 0 ≡ cond (has f before) 1 0 + occurs f (frames_in pages)
+
+-- the page at an index has this number and these words
+pub record IsPageAt (pages : List Page) (i number : ℕ) (words : List ℕ) : Type 0 where
+  pub there : Page
+  pub is : slice_get pages i ≡ Some there
+  pub number_is : number ≡ there.page
+  pub words_are : words ≡ there.words

@@ -3,6 +3,7 @@ ghost use Rattle.std.specs.Arc.{arc_value};
 ghost use Rattle.vf_frames.specs.declared.holder.Holder.{Holder};
 ghost use Rattle.vf_frames.specs.Holders.{Accounts, Keeps, SamePool};
 
+use crate::base::{are_apart, drop_unchanged, hold_over, share_with_room};
 use crate::change::change;
 use crate::content::word_in;
 use crate::gather::give_up;
@@ -13,7 +14,7 @@ use crate::share::{hold_all, share};
 use std::alloc::Global;
 use std::marker::Model;
 use std::sync::Arc;
-use vf_base::Memory;
+use vf_base::{Memory, PageNo};
 use vf_frames::Frames;
 
 /// The pages of one holder over a pool of frames: what was written since time zero. A page that is not
@@ -40,9 +41,9 @@ impl<F: Frames> Model for Paged<F> {
 }
 
 impl<F: Frames> Paged<F> {
-    ghost use Rattle.vf_pages.specs.Pages.{IsHeld, IsSorted, word_of};
+    ghost use Rattle.vf_pages.specs.Pages.{IsHeld, IsSorted, IsPageAt, word_of};
     ghost use Rattle.vf_pages.specs.Writes.{AreWrites};
-    ghost use Rattle.vf_pages.specs.Calls.{Wrote, WroteAmong, IsShort, ShortAmong, OnRefusal, IsUnmade, IsAtZero, Forked, GivenBack};
+    ghost use Rattle.vf_pages.specs.Calls.{Wrote, WroteAmong, IsShort, ShortAmong, OnRefusal, IsUnmade, IsAtZero, Forked, ForkedOver, KeptChanged, GivenBack};
 
     /// A new holder at time zero, with one of the parts of `from`. After want of memory all is as it
     /// was.
@@ -120,6 +121,15 @@ impl<F: Frames> Paged<F> {
         self.held.len() as u32
     }
 
+    /// The number and the words of a held page, by its place among them. The numbers rise.
+    pub fn page(&self, at: u32) -> (PageNo, &[u64; 64])
+        requires { at < length self.now.pages }
+        ensures { IsPageAt self.now.pages at result.0.0 result.1.now }
+    {
+        let one = &self.held[at as usize];
+        (one.page, &one.content)
+    }
+
     /// How many claims of this holder found no frame. The number stands still at 2^64 - 1.
     pub fn misses(&self, pool: &F) -> u64
         requires { self.now.holder.name ≡ F.name pool.now }
@@ -149,6 +159,58 @@ impl<F: Frames> Paged<F> {
         let mut token = pool.open(from, 1)?;
         hold_all(pool, &self.token, &mut token, &self.held);
         Ok(Paged { zero, held, token })
+    }
+
+    /// Another holder of these pages and, under them, of those of a base, with one of the parts of `from`.
+    /// It takes time proportional to the number of pages of both, and shares their contents. Where both
+    /// have a frame in common it answers want of memory. After that all is as it was.
+    pub fn fork_over(
+        &self,
+        pool: &mut F,
+        from: &mut F::Token,
+        base: &Paged<F>,
+    ) -> Result<Paged<F>, Memory>
+        requires name { self.now.holder.name ≡ F.name pool.old }
+        requires base_name { base.now.holder.name ≡ F.name pool.old }
+        requires from_name { (F.seen from.old).name ≡ F.name pool.old }
+        requires parts { 2 ≤ (F.seen from.old).parts }
+        ensures ok { IfOk result (λ fork. ForkedOver self.now base.now (F.seen from.old) (F.seen from.new) fork) }
+        ensures err { OnErr result (F.seen from.new ≡ F.seen from.old) }
+        ensures kept { MatchResult result
+            (λ fork. Keeps (F.numbers pool.old) (self.now.holder ∷ base.now.holder ∷ F.seen from.old ∷ [])
+            (F.numbers pool.new) (self.now.holder ∷ base.now.holder ∷ F.seen from.new ∷ fork.holder ∷ []))
+            (λ _. Keeps (F.numbers pool.old) (F.seen from.old ∷ []) (F.numbers pool.new) (F.seen from.new ∷ [])) }
+        ensures pool { SamePool (F.name pool.old) (F.numbers pool.old) (F.name pool.new) (F.numbers pool.new) }
+    {
+        let alloc = *self.held.allocator();
+        let zero = Arc::try_clone(&self.zero)?;
+        let own = share(alloc, &self.held)?;
+        let (mut held, spare) = share_with_room(alloc, &base.held, own.len())?;
+        if !are_apart(alloc, &own, &held)? {
+            return Err(Memory);
+        }
+        let mut token = pool.open(from, 1)?;
+        hold_over(
+            pool,
+            &self.token,
+            &base.token,
+            &mut token,
+            &mut held,
+            own,
+            spare,
+        );
+        Ok(Paged { zero, held, token })
+    }
+
+    /// Drops the pages that a base has with the same words, and releases their frames. It takes no
+    /// memory.
+    pub fn keep_changed(&mut self, pool: &mut F, base: &Paged<F>)
+        requires { self.old.holder.name ≡ F.name pool.old }
+        ensures changed { KeptChanged base.now self.old self.new }
+        ensures kept { Keeps (F.numbers pool.old) (self.old.holder ∷ []) (F.numbers pool.new) (self.new.holder ∷ []) }
+        ensures pool { SamePool (F.name pool.old) (F.numbers pool.old) (F.name pool.new) (F.numbers pool.new) }
+    {
+        drop_unchanged(pool, &mut self.token, &mut self.held, &base.held);
     }
 
     /// Releases every frame and gives the misses and parts to another holder.

@@ -1,8 +1,7 @@
-ghost use Rattle.std.specs.Prelude.{◌≡◌, ℕ, ◌≤◌, true, cond, [], ◌∷◌, length, IfOk};
-ghost use Rattle.vf_frames.specs.Numbers.{has};
+ghost use Rattle.std.specs.Prelude.{◌≡◌, [], ◌∷◌, IfOk};
 ghost use Rattle.vf_frames.specs.Holders.{Keeps, SamePool};
 ghost use Rattle.vf_frames.specs.Calls.{SameRest, NotesGrow, NoWin};
-ghost use Rattle.vf_pages.specs.Pages.{IsHeld, Covers};
+ghost use Rattle.vf_pages.specs.Pages.{Covers, IsApart, Takes};
 ghost use Rattle.vf_pages.specs.Views.{pages_of};
 
 use crate::held::Held;
@@ -26,7 +25,7 @@ pub(crate) fn share(alloc: Global, held: &[Held]) -> Result<Vec<Held>, Memory>
     Ok(copy)
 }
 
-/// Lets a holder that has no frame have the frames of another's pages.
+/// Lets a holder have the frames of another's pages, of which it has none.
 pub(crate) fn hold_all<F: Frames>(
     pool: &mut F,
     from: &F::Token,
@@ -36,8 +35,8 @@ pub(crate) fn hold_all<F: Frames>(
     requires from_name { (F.seen from.now).name ≡ F.name pool.old }
     requires name { (F.seen token.old).name ≡ F.name pool.old }
     requires covers { Covers (pages_of held.now) (F.seen from.now).frames }
-    requires none { (F.seen token.old).frames ≡ [] }
-    ensures held { IsHeld (pages_of held.now) (F.seen token.new).frames }
+    requires absent { IsApart (pages_of held.now) (F.seen token.old).frames }
+    ensures held { Takes (pages_of held.now) (F.seen token.old).frames (F.seen token.new).frames }
     ensures rest { SameRest (F.seen token.old) (F.seen token.new) }
     ensures notes { NotesGrow NoWin (F.seen token.old).notes (F.seen token.new).notes }
     ensures kept { Keeps (F.numbers pool.old) (F.seen from.now ∷ F.seen token.old ∷ [])

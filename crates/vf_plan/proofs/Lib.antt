@@ -6,3 +6,4 @@ pub mod PathLemmas
 pub mod ReaderLemmas
 pub mod SubtreeLemmas
 pub mod SaveLemmas
+pub mod CallerLemmas

@@ -1,7 +1,7 @@
 -- What a farm's runs are given.
 use Rattle.std.specs.Prelude.{◌≡◌, ℕ, ◌≤◌, List}
 use Rattle.vf_base.specs.declared.run.Limits.{Limits}
-use Rattle.vf_design.specs.Program.{Program}
+use Rattle.vf_design.specs.Program.{Program, IsWellFormed}
 use Rattle.vf_design.specs.Step.{start}
 use Rattle.vf_design.specs.Words.{words_of}
 use Rattle.vf_plan.specs.declared.plan.Node.{Node}
@@ -21,8 +21,9 @@ pub record IsInRange (limits : Limits) : Type 0 where
   pub output : limits.output ≤ 262144
   pub slots : (1 ≤ limits.slots) × (limits.slots ≤ 16384)
 
--- the plan keeps its rules, `zero` is the words at time zero, and limits and budget are in their ranges
+-- the design is well formed, the plan keeps its rules, `zero` is the words at time zero, and limits and budget are in their ranges
 pub record IsSetup (s : Conditions) : Type 0 where
+  pub formed : IsWellFormed s.design
   pub plan : IsPlan s.plan
   pub zero : s.zero ≡ words_of s.design start
   pub limits : IsInRange s.limits

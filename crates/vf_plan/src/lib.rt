@@ -19,7 +19,7 @@ mod reader;
 mod setup;
 
 pub use fault::{PlanFault, PlanKind};
-pub use plan::{Node, Plan, joined};
+pub use plan::{Node, Plan, is_below, joined};
 pub use read::read_plan;
 pub use setup::{Order, Setup, limits_of};
 

@@ -1,4 +1,5 @@
 ghost use Rattle.std.specs.Prelude.{◌≡◌, ◌<◌, ◌++◌, IfOk, OnOk, length};
+ghost use Rattle.vf_plan.specs.Subtree.{is_below};
 ghost use Rattle.vf_plan.specs.Paths.{joined};
 ghost use Rattle.vf_plan.specs.Rules.{IsPlan};
 
@@ -75,4 +76,21 @@ pub fn joined(alloc: Global, plan: &Plan, node: NodeNo) -> Result<Vec<u8>, Memor
     let mut bytes = Vec::new(alloc);
     push_path(plan, node, &mut bytes)?;
     Ok(bytes)
+}
+
+/// Whether a node of the plan is another or stands below it: it stands on the path from the root.
+pub fn is_below(plan: &Plan, top: NodeNo, node: NodeNo) -> bool
+    requires { node.0 < length plan.now }
+    ensures { result ≡ is_below plan.now top.0 node.0 }
+{
+    let mut at = node.0;
+    'nodes: loop {
+        if at == top.0 {
+            return true;
+        }
+        match plan.nodes[at as usize].parent {
+            Some(parent) => at = parent.0,
+            None => return false,
+        }
+    }
 }

@@ -10,7 +10,7 @@ hold-requires-clause-there g c =
 
 pub hold-requires-clause-absent : goal.hold-requires-clause-absent
 hold-requires-clause-absent g c =
-    next-absent c.loop-one.one-index c.args.held.now c.one-item.result (g.F.Frames.seen c.args.from.now).frames _ c.loop-one-test.true c.one-item.is c.requires.covers c.loop-one.invariant.held
+    next-absent c.loop-one.one-index c.args.held.now c.one-item.result (g.F.Frames.seen c.args.from.now).frames (g.F.Frames.seen c.args.token.now).frames _ c.loop-one-test.true c.one-item.is c.requires.covers c.requires.absent c.loop-one.invariant.held
 
 pub loop-one-preserved : goal.loop-one-preserved
 loop-one-preserved g c =

@@ -21,7 +21,7 @@ turns-init g c = record {
       subst (λ (text : List ℕ). IsRunning p c.args.stim.now c.args.limits.now c.args.budget c.in_ok-words_at_zero.field-0.items c.in_ok-touched.touched (record { turns = 0; reads = 0; written = 0 }) text 0)
       (sym (c.new-text.ensures ∙ c.new-2.ensures.items))
       (running_at_zero p c.args.stim.now c.args.limits.now c.args.budget c.in_ok-words_at_zero.field-0.items c.in_ok-touched.touched c.word_count.ensures.formed
-      c.in_ok-words_at_zero.ensures (c.in_ok-touched.ensures ∙ ap (λ n. replicate n false) count));
+      c.in_ok-words_at_zero.ensures.words (c.in_ok-touched.ensures ∙ ap (λ n. replicate n false) count));
   past = sym (le-ltb (length c.args.stim.now) 0 (omega arith));
   most = omega arith;
   parts = refl;

@@ -1,0 +1,6 @@
+pub mod RunLemmas
+pub mod StepLemmas
+pub mod ImageLemmas
+pub mod ForkLemmas
+pub mod BaseLemmas
+pub mod CallerLemmas

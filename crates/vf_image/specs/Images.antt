@@ -1,0 +1,79 @@
+-- What contracts see of an image: a checkpoint that is held (docs/FARM.md, "Simulators and images").
+use Rattle.std.specs.Prelude.{◌≡◌, ℕ, ◌<◌, ◌/◌, ◌%◌, ◌||◌, true, List, [], ◌∷◌, length, slice_index, Option, Some, None, is_some}
+use Rattle.vf_base.specs.declared.names.Job.{Job}
+use Rattle.vf_base.specs.declared.names.Job.TheVariants.{Reach}
+use Rattle.vf_base.specs.declared.names.NodeNo.{NodeNo}
+use Rattle.vf_base.specs.declared.run.Header.{Header}
+use Rattle.vf_base.specs.declared.run.SaveKind.{SaveKind}
+use Rattle.vf_design.specs.Program.{word_count}
+use Rattle.vf_design.specs.State.{IsSound}
+use Rattle.vf_design.specs.Words.{machine_of}
+use Rattle.vf_plan.specs.Jobs.{node_of, fits}
+use Rattle.vf_plan.specs.Kinds.{savepoint_of_node}
+use Rattle.vf_plan.specs.Subtree.{is_below}
+use Rattle.vf_plan.specs.Setup.{Conditions, IsSetup}
+use Rattle.vf_frames.specs.declared.holder.Holder.{Holder}
+use Rattle.vf_pages.specs.Pages.{Page, Pages, entry}
+use Rattle.vf_image.specs.Runs.{limits_for, moment_in, last_save, words_in, touches, IsRunAt, Stands}
+
+pub record Checkpoint : Type 0 where
+  pub setup : Conditions
+  pub node : NodeNo
+  -- the node whose image has the pages that this one lacks
+  pub base : Option NodeNo
+  pub header : Header
+  pub text : List ℕ
+  -- the kind of checkpoint
+  pub saved : Option SaveKind
+  -- the image's own pages
+  pub pages : Pages
+
+-- turn t of the run that reaches the node is its save point
+abbrev pub IsSavedAt : Conditions → NodeNo → ℕ → Type 0
+IsSavedAt c node t = savepoint_of_node (machine_of c.design) c.limits c.plan node ≡ Some t
+
+-- Pages over those of a base, whose save point is turn `since` of its own run: each own page has the words of turn t, and every other
+-- page has the same words in both.
+pub record StandsOver (c : Conditions) (node base : NodeNo) (since t : ℕ) (pages : Pages) : Type 0 where
+  pub zero : pages.zero ≡ c.zero
+  pub own : (at : ℕ) (e : Page) → at < word_count c.design → entry (at / 64) pages.pages ≡ Some e
+      → slice_index e.words (at % 64) ≡ slice_index (words_in c (Reach node) t) at
+  pub others : (at : ℕ) → at < word_count c.design → entry (at / 64) pages.pages ≡ None
+      → slice_index (words_in c (Reach base) since) at ≡ slice_index (words_in c (Reach node) t) at
+  pub touched : (page : ℕ) → (is_some (entry page pages.pages) || touches c (Reach base) since page) ≡ touches c (Reach node) t page
+
+-- the words at the save point, by themselves, or over those of a base, which are at the save point of its own node
+pub data IsHeldBy (i : Checkpoint) : Type 0 where
+  full : i.base ≡ None → Stands i.setup (Reach i.node) i.header.turns i.pages → IsHeldBy i
+  over : (base : NodeNo) (since : ℕ) → i.base ≡ Some base → IsSavedAt i.setup base since
+      → StandsOver i.setup i.node base since i.header.turns i.pages → IsHeldBy i
+
+-- an image is the save point of its node: words, header and all bytes written
+pub record IsImage (i : Checkpoint) : Type 0 where
+  pub setup : IsSetup i.setup
+  pub node : i.node.0 < length i.setup.plan
+  pub at_save : IsSavedAt i.setup i.node i.header.turns
+  pub saved : i.saved ≡ last_save i.setup (Reach i.node) i.header.turns
+  pub sound : IsSound i.setup.design (moment_in i.setup (Reach i.node) i.header.turns).state
+  pub run : IsRunAt i.setup (Reach i.node) i.header.turns i.header i.text
+  pub held : IsHeldBy i
+
+-- the image serves the job: it stands on the way to the job's node, and its counts fit the job's limits
+pub record Serves (i : Checkpoint) (job : Job) : Type 0 where
+  pub below : is_below i.setup.plan i.node.0 (node_of job) ≡ true
+  pub within : fits (limits_for i.setup job) i.header ≡ true
+
+-- a full image that has the pages which the image lacks
+pub record IsBaseOf (i base : Checkpoint) : Type 0 where
+  pub named : i.base ≡ Some base.node
+  pub full : base.base ≡ None
+  pub setup : base.setup ≡ i.setup
+
+-- the base is there exactly where the image names one
+abbrev pub HasBase : Checkpoint → Option Checkpoint → Type 0
+HasBase i None = i.base ≡ None
+HasBase i (Some base) = IsBaseOf i base
+
+abbrev pub base_holders : Option Checkpoint → List Holder
+base_holders None = []
+base_holders (Some base) = base.pages.holder ∷ []

@@ -1,0 +1,4 @@
+pub mod Runs
+pub mod Simulators
+pub mod Calls
+pub mod Images
