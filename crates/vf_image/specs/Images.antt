@@ -14,6 +14,7 @@ use Rattle.vf_plan.specs.Subtree.{is_below}
 use Rattle.vf_plan.specs.Setup.{Conditions, IsSetup}
 use Rattle.vf_frames.specs.declared.holder.Holder.{Holder}
 use Rattle.vf_pages.specs.Pages.{Page, Pages, entry}
+use Rattle.vf_pages.specs.Calls.{Forked, ForkedOver}
 use Rattle.vf_image.specs.Runs.{limits_for, moment_in, last_save, words_in, touches, IsRunAt, Stands}
 
 pub record Checkpoint : Type 0 where
@@ -77,3 +78,9 @@ HasBase i (Some base) = IsBaseOf i base
 abbrev pub base_holders : Option Checkpoint → List Holder
 base_holders None = []
 base_holders (Some base) = base.pages.holder ∷ []
+
+-- the pages are those of the image, over those of the base if there is one, and have one of the parts of the holder that went from one
+-- to the other
+abbrev pub ForkedFrom : Checkpoint → Option Checkpoint → Holder → Holder → Pages → Type 0
+ForkedFrom i None from from' new = Forked i.pages from from' new
+ForkedFrom i (Some base) from from' new = ForkedOver i.pages base.pages from from' new

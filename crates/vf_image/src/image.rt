@@ -107,6 +107,13 @@ impl<F: Frames> Image<F> {
         self.node
     }
 
+    /// What the farm's runs are given.
+    pub fn setup(&self) -> &Arc<Setup>
+        ensures { arc_value result.now ≡ self.now.setup }
+    {
+        &self.setup
+    }
+
     /// The node whose image has the pages that this one lacks; none for a full image.
     pub fn base(&self) -> Option<NodeNo>
         ensures { result ≡ self.now.base }

@@ -83,7 +83,7 @@ impl<F: Frames> Sim<F> {
     ghost use Rattle.vf_image.specs.Runs.{stimulus_of, GoesPast};
     ghost use Rattle.vf_image.specs.Simulators.{IsSimulator, IsNext};
     ghost use Rattle.vf_image.specs.Calls.{Advanced, Stayed};
-    ghost use Rattle.vf_image.specs.Images.{Serves, IsBaseOf, HasBase, base_holders};
+    ghost use Rattle.vf_image.specs.Images.{Serves, IsBaseOf, HasBase, ForkedFrom, base_holders};
 
     /// The run of a job at time zero, with one of the parts of `from`. After want of memory all is as it
     /// was.
@@ -147,6 +147,7 @@ impl<F: Frames> Sim<F> {
         requires serves { Serves image.now job }
         ensures setup { IfOk result (λ sim. (sim.setup ≡ image.now.setup) × (sim.job ≡ job)) }
         ensures header { IfOk result (λ sim. (sim.header ≡ image.now.header) × (sim.saved ≡ image.now.saved) × (sim.short ≡ false)) }
+        ensures forked { IfOk result (λ sim. ForkedFrom image.now (option_map (λ b. b.now) base.entry) (F.seen from.old) (F.seen from.new) sim.pages) }
         ensures err { OnErr result (F.seen from.new ≡ F.seen from.old) }
         ensures kept { MatchResult result
             (λ sim. Keeps (F.numbers pool.old) (image.now.pages.holder ∷ (base_holders (option_map (λ b. b.now) base.entry) ++ F.seen from.old ∷ []))
