@@ -31,8 +31,8 @@ pub fn read_decimal(text: &[u8]) -> Option<u64>
     Some(number)
 }
 
-/// Appends the decimal digits of a number, without leading zeros. After want of memory the target is
-/// unchanged.
+/// Appends the decimal digits of a number, without leading zeros. Where it is out of memory the target
+/// is unchanged.
 pub fn write_decimal(n: u64, into: &mut Vec<u8>) -> Result<(), Memory>
     ensures ok { OnOk result (into.new.items ≡ into.old.items ++ decimal n) }
     ensures err { OnErr result (into.new.items ≡ into.old.items) }

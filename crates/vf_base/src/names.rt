@@ -9,32 +9,13 @@ pub struct Place {
 #[derive(Clone, Copy, Debug, PartialEq, Eq)]
 pub struct NodeNo(pub u32);
 
-/// The number of a page frame in its pool, from 0.
-#[derive(Clone, Copy, Debug, PartialEq, Eq)]
-pub struct FrameNo(pub u32);
-
-/// The number of a page of a state's words, from 0. A page has 64 words.
-#[derive(Clone, Copy, Debug, PartialEq, Eq)]
-pub struct PageNo(pub u32);
-
 /// The number of a design's signal, from 0 in the order of declaration.
 #[derive(Clone, Copy, Debug, PartialEq, Eq)]
 pub struct SigNo(pub u32);
-
-/// The number of a design's process, from 0 in the order of elaboration.
-#[derive(Clone, Copy, Debug, PartialEq, Eq)]
-pub struct ProcNo(pub u32);
 
 /// A job of the farm: a run towards the checkpoint of a node, or the run of a test to its end.
 #[derive(Clone, Copy, Debug, PartialEq, Eq)]
 pub enum Job {
     Reach(NodeNo),
     Finish(NodeNo),
-}
-
-/// A job and the turn of the checkpoint that its attempt started from; 0 is time zero.
-#[derive(Clone, Copy, Debug, PartialEq, Eq)]
-pub struct Task {
-    pub job: Job,
-    pub from: u64,
 }

@@ -7,8 +7,6 @@ pub struct Limits {
     pub turns: u64,
     /// The most bytes that a run writes, up to 262,144.
     pub output: u64,
-    /// How many event slots a state has, from 1 to 16,384.
-    pub slots: u32,
 }
 
 /// What a run has counted so far. It stands outside the words of the state.

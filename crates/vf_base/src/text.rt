@@ -28,7 +28,7 @@ impl Text {
         self.0.as_slice()
     }
 
-    /// Appends bytes. After want of memory the text is unchanged.
+    /// Appends bytes. Where it is out of memory the text is unchanged.
     pub fn push_all(&mut self, more: &[u8]) -> Result<(), Memory>
         ensures ok { OnOk result (self.new ≡ self.old ++ more.now) }
         ensures err { OnErr result (self.new ≡ self.old) }
@@ -37,7 +37,7 @@ impl Text {
         Ok(())
     }
 
-    /// Keeps the first bytes, as many as are told, and drops those behind them. It takes no memory.
+    /// Keeps the first `len` bytes and drops those after them. It takes no memory.
     pub fn truncate(&mut self, len: usize)
         ensures { self.new ≡ take len self.old }
     {

@@ -12,7 +12,7 @@ use Rattle.vf_base.specs.declared.run.Limits.{Limits}
 use Rattle.vf_machine.specs.Machine.{Machine}
 use Rattle.vf_machine.specs.Pages.{is_touched, page_differs}
 use Rattle.vf_machine.specs.Run.{Moment, words_at, moment_at, mark_at}
-use Rattle.vf_machine.specs.Alone.{turns_before_end}
+use Rattle.vf_machine.specs.Solo.{turns_before_end}
 use Rattle.vf_machine.specs.Laws.{SameFor}
 use Rattle.vf_machine.proofs.CallerLemmas.{is_touched-suc, later, reads_grow, IsFirst, Finds, first_finds}
 use Rattle.vf_design.specs.Program.{word_count}

@@ -12,7 +12,7 @@ use Rattle.vf_machine.specs.Run.{Moment, Turned, moment_at, mark_at, turn_of, en
 use Rattle.vf_machine.specs.Pages.{is_touched, page_differs}
 use Rattle.vf_machine.specs.Laws.{SameFor}
 use Rattle.vf_machine.proofs.CallerLemmas.{is_touched-zero, is_touched-suc, unlimited, no_limit, later, reads_grow, moment_at-suc, IsFirst, Finds, first_finds, performed-reads, prefix, run_ends_lem}
-use Rattle.vf_machine.specs.Alone.{turns_before_end}
+use Rattle.vf_machine.specs.Solo.{turns_before_end}
 use Rattle.vf_design.specs.State.{State, IsSound}
 use Rattle.vf_design.specs.Words.{machine_of, words_of}
 use Rattle.vf_plan.specs.Jobs.{node_of, fits}

@@ -1,4 +1,4 @@
--- How far a job's lone run has come.
+-- How far a job's solo run has come.
 use Rattle.std.proofs.Common.{◌≡◌, ℕ, ◌<◌, ◌/◌, [], length, slice_index, is_some, sym, ap, subst, ◌∙◌, arith}
 use Rattle.vf_base.specs.declared.names.Job.{Job}
 use Rattle.vf_machine.specs.Run.{Moment}

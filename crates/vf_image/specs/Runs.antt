@@ -1,4 +1,4 @@
--- The lone run of a job, and what of it a simulator or an image has (docs/FARM.md, "Simulators and images").
+-- The solo run of a job, and what of it a simulator or an image has (docs/FARM.md, "Simulators and images").
 use Rattle.std.specs.Prelude.{◌≡◌, ℕ, zero, suc, ◌<◌, Bool, false, List, Option, None, slice_index, is_some}
 use Rattle.vf_base.specs.declared.names.Job.{Job}
 use Rattle.vf_base.specs.declared.names.Job.TheVariants.{Reach, Finish}
@@ -24,7 +24,7 @@ stimulus_of c job = joined c.plan (node_of job)
 abbrev pub limits_for : Conditions → Job → Limits
 limits_for c job = limits_of c.limits c.plan job
 
--- of the job's lone run: the moment after k turns, the bytes written in them, the words then, and the turn that comes next
+-- of the job's solo run: the moment after k turns, the bytes written in them, the words then, and the turn that comes next
 abbrev pub moment_in : Conditions → Job → ℕ → Moment State
 moment_in c job k = moment_at (machine_of c.design) (stimulus_of c job) (limits_for c job) k
 
@@ -56,13 +56,13 @@ GoesPast c (Reach node) k =
     (save_at (machine_of c.design) (stimulus_of c (Reach node)) (limits_for c (Reach node)) k ≡ None)
     × (is_passed (machine_of c.design) (stimulus_of c (Reach node)) (limits_for c (Reach node)) k ≡ false)
 
--- the pages have the words of the job's lone run after k turns, and those are held that it touched
+-- the pages have the words of the job's solo run after k turns, and those are held that it touched
 pub record Stands (c : Conditions) (job : Job) (k : ℕ) (pages : Pages) : Type 0 where
   pub zero : pages.zero ≡ c.zero
   pub words : (at : ℕ) → at < word_count c.design → word_of pages at ≡ slice_index (words_in c job k) at
   pub touched : (page : ℕ) → is_some (entry page pages.pages) ≡ touches c job k page
 
--- turn k of the job's lone run, which has not ended nor been decided before: what has been counted, and all bytes written so far
+-- turn k of the job's solo run, which has not ended nor been decided before: what has been counted, and all bytes written so far
 pub record IsRunAt (c : Conditions) (job : Job) (k : ℕ) (header : Header) (bytes : List ℕ) : Type 0 where
   pub goes : GoesOn c job k
   pub goes_past : (j : ℕ) → j < k → GoesPast c job j

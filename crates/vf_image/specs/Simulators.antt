@@ -22,7 +22,7 @@ pub record Simulator : Type 0 where
   -- an advance wanted a frame, and no turn was made since
   pub short : Bool
 
--- at every moment a simulator is turn `header.turns` of the lone run of its job
+-- at every moment a simulator is turn `header.turns` of the solo run of its job
 pub record IsSimulator (s : Simulator) : Type 0 where
   pub setup : IsSetup s.setup
   pub job : node_of s.job < length s.setup.plan

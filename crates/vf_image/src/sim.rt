@@ -20,7 +20,7 @@ use vf_pages::{PageRefusal, Paged};
 use vf_plan::{Setup, joined};
 
 /// A run of the design by a job, from time zero or an image on. At every moment it is turn
-/// `header.turns` of the lone run of its job: it has the words, the header and all bytes written of that
+/// `header.turns` of the solo run of its job: it has the words, the header and all bytes written of that
 /// turn, and the pages that the run touched.
 #[derive(Drop)]
 pub struct Sim<F: Frames> {

@@ -14,8 +14,9 @@ pub use Rattle.vf_machine.proofs.Ends.{turn-counts, turns_counted, counts_once, 
 pub use Rattle.vf_machine.proofs.Kept.{KeptBy, SeesByte, sees_byte, turn-kept, moments_kept, stimulus_of_bytes}
 -- what a search below a bound finds, and how many numbers pass
 pub use Rattle.vf_machine.proofs.Searches.{IsFirst, NoneBelow, Finds, none_below_more, first_finds, first_is}
-pub use Rattle.vf_machine.proofs.AloneLemmas.{count_below-ext, count_below-le, count_below-more}
+pub use Rattle.vf_machine.proofs.SoloLemmas.{count_below-ext, count_below-le, count_below-more, count_below-mono}
 -- the pages that writes change, and those that a run has touched
-pub use Rattle.vf_machine.proofs.Changes.{changed_pages_lem, is_touched-zero, is_touched-suc}
--- the lone run, from the turn at which it stops
-pub use Rattle.vf_machine.proofs.AloneLemmas.{KeepsWithin, alone_ended, alone_passed}
+pub use Rattle.vf_machine.proofs.Changes.{any_found, changed_pages_lem, is_touched-zero, is_touched-suc}
+pub use Rattle.vf_machine.proofs.Touching.{touched_pages_grow_lem}
+-- the solo run, from the turn at which it stops
+pub use Rattle.vf_machine.proofs.SoloLemmas.{KeepsWithin, solo_ended, solo_passed}

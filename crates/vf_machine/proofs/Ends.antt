@@ -6,7 +6,7 @@ use Rattle.vf_base.specs.declared.run.SaveKind.{SaveKind}
 use Rattle.vf_machine.specs.Machine.{Machine, Move, go, stop}
 use Rattle.vf_machine.specs.Search.{first}
 use Rattle.vf_machine.specs.Run.{Moment, Turned, moment_at, turn_of, mark_at, free_turn, performed, sight_at, saved_mark, is_ending}
-use Rattle.vf_machine.specs.Alone.{turns_before_end}
+use Rattle.vf_machine.specs.Solo.{turns_before_end}
 use Rattle.vf_machine.specs.Laws.{RunEnds, EndingIsStill}
 use Rattle.vf_machine.proofs.Runs.{moment_at-zero, moment_at-suc, branches, branches_free}
 use Rattle.vf_machine.proofs.Searches.{NoneBelow, Finds, IsFirst, first_finds}

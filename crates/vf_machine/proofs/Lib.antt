@@ -4,5 +4,6 @@ pub mod Prefixes
 pub mod Ends
 pub mod Kept
 pub mod Changes
-pub mod AloneLemmas
+pub mod SoloLemmas
 pub mod CallerLemmas
+pub mod Touching

@@ -1,11 +1,12 @@
 -- The laws of a run, over any machine. Each is the contract of a function of `laws`.
 use Rattle.std.specs.Prelude.{◌≡◌, ℕ, suc, ◌<◌, ◌≤◌, true, false, List, [], length, take, IfSome, slice_get}
 use Rattle.vf_base.specs.declared.run.Limits.{Limits}
+use Rattle.vf_base.specs.declared.write.Write.{Write}
 use Rattle.vf_machine.specs.Machine.{Machine}
 use Rattle.vf_machine.specs.Run.{moment_at, turn_at, mark_at, text_at, is_ending, is_limit}
 use Rattle.vf_machine.specs.Writes.{IsChange, writes_page}
-use Rattle.vf_machine.specs.Pages.{page_differs}
-use Rattle.vf_machine.specs.Alone.{turns_before_end}
+use Rattle.vf_machine.specs.Pages.{page_differs, pages_touched}
+use Rattle.vf_machine.specs.Solo.{turns_before_end}
 
 -- none of the first k turns ended the run by a limit
 abbrev pub IsUnlimited : {S : Type 0} → Machine S → List ℕ → Limits → ℕ → Type 0
@@ -42,4 +43,9 @@ IsStimulus stim = (at : ℕ) → IfSome (slice_get stim at) (λ byte. byte < 256
 -- the pages that a change touches are those of its writes
 abbrev pub ChangedPages : Type 0
 ChangedPages =
-    (before after : List ℕ) (writes : List (ℕ × ℕ)) (page : ℕ) → IsChange before after writes → page_differs before after page ≡ writes_page writes page
+    (before after : List ℕ) (writes : List Write) (page : ℕ) → IsChange before after writes → page_differs before after page ≡ writes_page writes page
+
+-- a run that goes on never has fewer touched pages
+abbrev pub TouchedPagesGrow : {S : Type 0} → Machine S → Type 0
+TouchedPagesGrow m =
+    (stim : List ℕ) (limits : Limits) (j k : ℕ) → j ≤ k → pages_touched m stim limits j ≤ pages_touched m stim limits k

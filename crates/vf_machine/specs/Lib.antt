@@ -3,5 +3,5 @@ pub mod Search
 pub mod Run
 pub mod Writes
 pub mod Pages
-pub mod Alone
+pub mod Solo
 pub mod Laws

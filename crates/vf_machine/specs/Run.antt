@@ -3,7 +3,7 @@ use Rattle.std.specs.Prelude.{ℕ, zero, suc, ◌+◌, Bool, true, false, List, 
 use Rattle.vf_base.specs.declared.run.Header.{Header}
 use Rattle.vf_base.specs.declared.run.Limits.{Limits}
 use Rattle.vf_base.specs.declared.run.Ending.{Ending}
-use Rattle.vf_base.specs.declared.run.Ending.TheVariants.{Drained, Turns, Output}
+use Rattle.vf_base.specs.declared.run.Ending.TheVariants.{Finish, Stop, Drained, Turns, Output, Events, Time}
 use Rattle.vf_base.specs.declared.run.SaveKind.{SaveKind}
 use Rattle.vf_machine.specs.declared.mark.Mark.{Mark}
 use Rattle.vf_machine.specs.declared.mark.Mark.TheVariants.{Plain, Saved, Ended}
@@ -114,4 +114,8 @@ is_limit Plain = false
 is_limit (Saved kind) = false
 is_limit (Ended Turns) = true
 is_limit (Ended Output) = true
-is_limit (Ended _) = false
+is_limit (Ended (Finish n)) = false
+is_limit (Ended (Stop n)) = false
+is_limit (Ended Drained) = false
+is_limit (Ended Events) = false
+is_limit (Ended Time) = false

@@ -5,7 +5,7 @@ ghost use Rattle.std.specs.Prelude.{◌≡◌, ℕ, true, List};
 ghost use Rattle.vf_base.specs.declared.run.Limits.{Limits};
 ghost use Rattle.vf_machine.specs.Machine.{Machine};
 ghost use Rattle.vf_machine.specs.Run.{mark_at, is_ending};
-ghost use Rattle.vf_machine.specs.Laws.{PrefixLaw, RunEnds, EndingIsStill, ChangedPages};
+ghost use Rattle.vf_machine.specs.Laws.{PrefixLaw, RunEnds, EndingIsStill, ChangedPages, TouchedPagesGrow};
 
 /// Two runs are the same as long as they have read only what their stimuli have in common and no limit
 /// has ended one of them.
@@ -26,4 +26,9 @@ pub fn ending_is_still<S>()
 /// The pages on which two lists of words differ are those of the writes from one to the other.
 pub fn changed_pages()
     ensures { ChangedPages }
+{}
+
+/// A run that goes on never has fewer touched pages.
+pub fn touched_pages_grow<S>()
+    ensures { (m : Machine S) → TouchedPagesGrow m }
 {}

@@ -1,4 +1,4 @@
-//! A run and the lone run, over any machine: the definitions that the farm is proved against, and
+//! A run and the solo run, over any machine: the definitions that the farm is proved against, and
 //! the laws over them.
 //!
 //! It stands on vf_base. A machine is a record of plain functions (`specs/Machine.antt`); a design is

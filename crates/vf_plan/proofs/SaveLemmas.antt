@@ -5,7 +5,7 @@ use Rattle.vf_base.specs.declared.run.Limits.{Limits}
 use Rattle.vf_base.specs.declared.run.SaveKind.{SaveKind}
 use Rattle.vf_machine.specs.Machine.{Machine}
 use Rattle.vf_machine.specs.Run.{Moment, Turned, moment_at, turn_at, turn_of, free_turn, mark_at, is_ending, is_limit}
-use Rattle.vf_machine.specs.Alone.{turns_before_end}
+use Rattle.vf_machine.specs.Solo.{turns_before_end}
 use Rattle.vf_machine.specs.Laws.{PrefixLaw, RunEnds, IsUnlimited, SameFor}
 use Rattle.vf_machine.proofs.CallerLemmas.{moment_at-suc, unlimited, within_limits, no_limit, same_free, reads_grow, written_grows, later, Finds, IsFirst, first_finds, turns_counted}
 use Rattle.vf_plan.specs.Paths.{joined}

@@ -1,4 +1,4 @@
--- The save point and the kind of a node, on the lone run of the job that reaches it: the run of a machine on the node's
+-- The save point and the kind of a node, on the solo run of the job that reaches it: the run of a machine on the node's
 -- stimulus under that job's limits (docs/FARM.md, "Save points and kinds"). A number of turns t stands for the moment after
 -- t turns.
 use Rattle.std.specs.Prelude.{◌≡◌, ℕ, zero, suc, ◌+◌, ◌≤◌, Bool, true, false, ◌&&◌, ◌==◌, nat_lt, nat_le, List, length, Option, Some, None, is_some, unwrap_or, if◌then◌else◌}
@@ -15,7 +15,7 @@ use Rattle.vf_machine.specs.Machine.{Machine}
 use Rattle.vf_machine.specs.Search.{first}
 use Rattle.vf_machine.specs.Run.{moment_at, turn_at, mark_at}
 use Rattle.vf_machine.specs.Pages.{pages_touched}
-use Rattle.vf_machine.specs.Alone.{turns_before_end, alone}
+use Rattle.vf_machine.specs.Solo.{turns_before_end, solo}
 use Rattle.vf_machine.specs.Laws.{SameFor}
 use Rattle.vf_plan.specs.declared.plan.Node.{Node}
 use Rattle.vf_plan.specs.Paths.{joined}
@@ -88,9 +88,9 @@ kind_of m stim limits budget = first_decided (kind_at m stim limits budget) (tur
 
 -- ---- a plan's nodes and jobs
 
--- the outcome of the lone run of a job
+-- the outcome of the solo run of a job
 abbrev pub outcome_of : {S : Type 0} → Machine S → Limits → ℕ → List Node → Job → Outcome
-outcome_of m given budget nodes job = alone m (joined nodes (node_of job)) (limits_of given nodes job) budget
+outcome_of m given budget nodes job = solo m (joined nodes (node_of job)) (limits_of given nodes job) budget
 
 abbrev pub savepoint_of_node : {S : Type 0} → Machine S → Limits → List Node → NodeNo → Option ℕ
 savepoint_of_node m given nodes n = savepoint m (joined nodes n.0) (limits_of given nodes (Reach n))
@@ -104,7 +104,7 @@ kind_of_node m given budget nodes n = kind_of m (joined nodes n.0) (limits_of gi
 abbrev pub HasOneKind : {S : Type 0} → Machine S → Type 0
 HasOneKind m = (stim : List ℕ) (limits : Limits) (budget : ℕ) → (kind : Kind) × (kind_of m stim limits budget ≡ Some kind)
 
--- Up to a node's save point the lone run of the job that reaches it is that of each run on the stimulus of a node of its subtree
+-- Up to a node's save point the solo run of the job that reaches it is that of each run on the stimulus of a node of its subtree
 -- whose limits the checkpoint fits.
 abbrev pub SharesItsSavePoint : {S : Type 0} → Machine S → Type 0
 SharesItsSavePoint m =

@@ -13,7 +13,7 @@ use Rattle.vf_plan.specs.Rules.{IsPlan}
 abbrev pub is_below : List Node → ℕ → ℕ → Bool
 is_below nodes top n = list_any (λ a. a == top) (path nodes n)
 
--- The lone runs of a node and of one below it are the same up to the turn that reads past the node's stimulus, whatever
+-- The solo runs of a node and of one below it are the same up to the turn that reads past the node's stimulus, whatever
 -- their limits, as long as neither has ended by a limit.
 abbrev pub SharesItsRun : {S : Type 0} → Machine S → Type 0
 SharesItsRun m =

@@ -9,14 +9,14 @@ ghost use Rattle.vf_plan.specs.Subtree.{SharesItsRun};
 
 use vf_machine::laws::{prefix_law, run_ends};
 
-/// Up to the read past a node's stimulus its lone run is that of each node below it, so of each test.
+/// Up to the read past a node's stimulus its solo run is that of each node below it, so of each test.
 pub fn runs_are_shared<S>()
     ensures { (m : Machine S) → SharesItsRun m }
 {
     prefix_law::<S>();
 }
 
-/// Up to a node's save point its lone run is that of each job below it whose limits the checkpoint
+/// Up to a node's save point its solo run is that of each job below it whose limits the checkpoint
 /// fits.
 pub fn save_points_are_shared<S>()
     ensures { (m : Machine S) → SharesItsSavePoint m }

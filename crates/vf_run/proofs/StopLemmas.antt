@@ -9,7 +9,7 @@ use Rattle.vf_base.specs.declared.run.Limits.{Limits}
 use Rattle.vf_base.specs.declared.run.SaveKind.{SaveKind}
 use Rattle.vf_machine.specs.Machine.{Machine}
 use Rattle.vf_machine.specs.Run.{Moment, Turned, moment_at, mark_at, turn_of, is_ending}
-use Rattle.vf_machine.specs.Alone.{turns_before_end}
+use Rattle.vf_machine.specs.Solo.{turns_before_end}
 use Rattle.vf_machine.proofs.CallerLemmas.{moment_at-zero, moment_at-suc, reads_once, first_is, run_ends_lem}
 use Rattle.vf_design.specs.declared.turn.Turn.{Turn}
 use Rattle.vf_design.specs.Program.{Program}

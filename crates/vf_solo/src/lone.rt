@@ -1,5 +1,5 @@
 ghost use Rattle.std.specs.Prelude.{◌≡◌, ◌+◌, ◌-◌, ◌<◌, ◌≤◌, ◌^◌, IfOk, OnOk};
-ghost use Rattle.vf_machine.specs.Alone.{alone, turns_alone};
+ghost use Rattle.vf_machine.specs.Solo.{solo, solo_turns};
 ghost use Rattle.vf_design.specs.Words.{machine_of};
 
 use crate::flat::{Flat, perform};
@@ -22,8 +22,8 @@ pub fn solo<L: Ledger>(
     steps: &mut Steps<L>,
 ) -> Result<Outcome, Memory>
     requires { steps.old.count + limits.now.turns < 2 ^ 64 - 1 }
-    ensures outcome { IfOk result (λ outcome. outcome ≡ alone (machine_of design.now) stim.now limits.now budget) }
-    ensures steps { OnOk result (steps.new.count ≡ steps.old.count + turns_alone (machine_of design.now) stim.now limits.now budget) }
+    ensures outcome { IfOk result (λ outcome. outcome ≡ solo (machine_of design.now) stim.now limits.now budget) }
+    ensures steps { OnOk result (steps.new.count ≡ steps.old.count + solo_turns (machine_of design.now) stim.now limits.now budget) }
     ensures moved { (steps.old.count ≤ steps.new.count) × (steps.new.count ≤ steps.old.count + limits.now.turns) }
     ensures parts { steps.new.parts ≡ steps.old.parts }
 {

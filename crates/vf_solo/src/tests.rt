@@ -42,7 +42,7 @@ fn echo(alloc: Global) -> Result<Design, AllocError> {
     })
 }
 
-/// The lone run on "ab", or nothing where memory is wanting.
+/// The solo run on "ab", or nothing where memory is wanting.
 fn outcome<L: Ledger>(
     alloc: Global,
     limits: &Limits,

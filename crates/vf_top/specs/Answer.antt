@@ -89,7 +89,7 @@ pub record NothingDone (before after : World) : Type 0 where
   pub out : OutputKept before.out after.out
   pub steps : after.steps ≡ before.steps
 
--- the report of an accepted test went out whole: its outcome is that of the lone run
+-- the report of an accepted test went out whole: its outcome is that of the solo run
 pub record Reports (words : List (List ℕ)) (before after : World) (p : Program) (test : Node) : Type 0 where
   pub accepted : IsAccepted words before.shelf p test
   pub report : Appends before.out.written after.out.written (report_text p test)

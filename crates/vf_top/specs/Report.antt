@@ -4,7 +4,7 @@ use Rattle.vf_base.specs.declared.names.Job.{Job}
 use Rattle.vf_base.specs.declared.names.Job.TheVariants.{Finish}
 use Rattle.vf_base.specs.declared.run.Limits.{Limits}
 use Rattle.vf_base.specs.declared.run.Outcome.{Outcome}
-use Rattle.vf_machine.specs.Alone.{turns_alone}
+use Rattle.vf_machine.specs.Solo.{solo_turns}
 use Rattle.vf_design.specs.Program.{Program}
 use Rattle.vf_design.specs.Words.{machine_of}
 use Rattle.vf_plan.specs.declared.plan.Node.{Node}
@@ -31,7 +31,7 @@ abbrev pub outcome_of : Program → Node → Outcome
 outcome_of p test = kinds.outcome_of (machine_of p) default_limits default_budget (test ∷ []) only_job
 
 abbrev pub turns_of : Program → Node → ℕ
-turns_of p test = turns_alone (machine_of p) (joined (test ∷ []) 0) (limits_of default_limits (test ∷ []) only_job) default_budget
+turns_of p test = solo_turns (machine_of p) (joined (test ∷ []) 0) (limits_of default_limits (test ∷ []) only_job) default_budget
 
 -- the test as the report counts it
 abbrev pub tested_with : Node → Outcome → Tested

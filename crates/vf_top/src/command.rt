@@ -129,7 +129,7 @@ fn answer<S: Shelf, K: Sink, E: Sink, L: Ledger>(
 /// | 2 | exactly where the words are not two names of files |
 /// | 3 | exactly where the design's bytes are no early design |
 /// | 4 | exactly where the plan's bytes are no plan, or one of more than one node |
-/// | 5 | a whole report: the test's lone run touches more pages than the budget |
+/// | 5 | a whole report: the test's solo run touches more pages than the budget |
 /// | 6 | the shelf failed in this call, or exactly where a file is above its limit |
 /// | 7 | the output failed in this call; a prefix of the report went out |
 /// | 8 | want of memory; nothing was written to `out` |

@@ -3,9 +3,9 @@ use Rattle.std.proofs.lemmas.Bool.{le-ltb, lt-ltb}
 use Rattle.vf_base.specs.declared.run.Outcome.TheVariants.{Done, Pages}
 use Rattle.vf_machine.specs.Run.{moment_at, mark_at, is_ending}
 use Rattle.vf_machine.specs.Writes.{written}
-use Rattle.vf_machine.specs.Alone.{ending_of}
+use Rattle.vf_machine.specs.Solo.{ending_of}
 use Rattle.vf_machine.specs.Pages.{pages_touched}
-use Rattle.vf_machine.proofs.CallerLemmas.{none_below_more, counts_once, before_limit, alone_ended, alone_passed}
+use Rattle.vf_machine.proofs.CallerLemmas.{none_below_more, counts_once, before_limit, solo_ended, solo_passed}
 use Rattle.vf_design.specs.Program.{page_count}
 use Rattle.vf_design.specs.Words.{machine_of}
 use Rattle.vf_solo.specs.Flags.{flags_set, marked}
@@ -36,7 +36,7 @@ returns-in-Ended-clause-outcome g c =
     let turn = next_turn c.args.design.now c.args.stim.now c.args.limits.now c.args.budget c.turns.flat.words.items c.turns.touched c.turns.header c.turns.text k c.in_ok-next.next run
     (c.in_ok-next.ensures (moment_at m c.args.stim.now c.args.limits.now k).state run.sound run.words_are) in
     let mark = sym turn.mark ∙ c.in-Ended.is in
-    let done = alone_ended m c.args.stim.now c.args.limits.now c.args.budget k run.goes_on (ap is_ending mark) run.within in
+    let done = solo_ended m c.args.stim.now c.args.limits.now c.args.budget k run.goes_on (ap is_ending mark) run.within in
     sym (done.outcome ∙ (λ i. Done (ending_of (mark i)) (sym run.text_is i) (sym turn.header_is i).turns))
 
 pub returns-in-Ended-clause-steps : goal.returns-in-Ended-clause-steps
@@ -48,7 +48,7 @@ returns-in-Ended-clause-steps g c =
     let turn = next_turn c.args.design.now c.args.stim.now c.args.limits.now c.args.budget c.turns.flat.words.items c.turns.touched c.turns.header c.turns.text k c.in_ok-next.next run
     (c.in_ok-next.ensures now.state run.sound run.words_are) in
     let mark = sym turn.mark ∙ c.in-Ended.is in
-    let done = alone_ended m c.args.stim.now c.args.limits.now c.args.budget k run.goes_on (ap is_ending mark) run.within in
+    let done = solo_ended m c.args.stim.now c.args.limits.now c.args.budget k run.goes_on (ap is_ending mark) run.within in
     let once = counts_once m c.args.stim.now c.args.limits.now now in
     let before = ap (λ h. h.turns) run.header_is in
     let after = ap (λ h. h.turns) turn.header_is in
@@ -85,7 +85,7 @@ returns-then-count-budget g c =
     let counted : c.count.result ≡ flags_set (marked c.turns.touched c.in_ok-next.next.writes.items) = c.count.ensures ∙ ap flags_set touched in
     let passes : nat_lt c.args.budget (pages_touched m stim limits (suc k)) ≡ true =
     ap (nat_lt c.args.budget) (sym (counted ∙ flags.count)) ∙ lt-ltb c.args.budget c.count.result c.if-count-budget.true in
-    let stopped = alone_passed m stim limits c.args.budget k (none_below_more (λ j. is_ending (mark_at m stim limits j)) k run.goes_on going_now) run.within passes in
+    let stopped = solo_passed m stim limits c.args.budget k (none_below_more (λ j. is_ending (mark_at m stim limits j)) k run.goes_on going_now) run.within passes in
     record {
       outcome = ap Pages (c.count-then-count-budget.ensures ∙ ap flags_set touched ∙ flags.count) ∙ sym stopped.outcome;
       steps = omega (arith, c.turns.invariant.count, stopped.turns);

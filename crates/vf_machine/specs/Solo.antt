@@ -1,4 +1,4 @@
--- The lone run: what becomes of a machine on a stimulus, from time zero to its end, with nothing shared.
+-- The solo run: what becomes of a machine on a stimulus, from time zero to its end, with nothing shared.
 use Rattle.std.specs.Prelude.{ℕ, ◌+◌, ◌-◌, List, Option, Some, None, nat_lt, unwrap_or}
 use Rattle.vf_base.specs.declared.run.Limits.{Limits}
 use Rattle.vf_base.specs.declared.run.Ending.{Ending}
@@ -34,15 +34,15 @@ outcome_at m stim limits (Some k) end = Pages (pages_touched m stim limits k)
 outcome_at m stim limits None end =
     Done (ending_of (mark_at m stim limits end)) (text_at m stim limits end) (turn_at m stim limits end).after.header.turns
 
--- The outcome of the lone run: the pages touched with the first turn that passes the budget; where none does, the
+-- The outcome of the solo run: the pages touched with the first turn that passes the budget; where none does, the
 -- first ending, all bytes written before it, and the turns counted with it.
-abbrev pub alone : {S : Type 0} → Machine S → List ℕ → Limits → ℕ → Outcome
-alone m stim limits budget = outcome_at m stim limits (passing_turn m stim limits budget) (turns_before_end m stim limits)
+abbrev pub solo : {S : Type 0} → Machine S → List ℕ → Limits → ℕ → Outcome
+solo m stim limits budget = outcome_at m stim limits (passing_turn m stim limits budget) (turns_before_end m stim limits)
 
 abbrev pub performed_at : {S : Type 0} → Machine S → List ℕ → Limits → Option ℕ → ℕ → ℕ
 performed_at m stim limits (Some k) end = k - 1
 performed_at m stim limits None end = (turn_at m stim limits end).after.header.turns
 
--- How many turns the lone run performs: those before the one that passes the budget, or those counted with the ending.
-abbrev pub turns_alone : {S : Type 0} → Machine S → List ℕ → Limits → ℕ → ℕ
-turns_alone m stim limits budget = performed_at m stim limits (passing_turn m stim limits budget) (turns_before_end m stim limits)
+-- How many turns the solo run performs: those before the one that passes the budget, or those counted with the ending.
+abbrev pub solo_turns : {S : Type 0} → Machine S → List ℕ → Limits → ℕ → ℕ
+solo_turns m stim limits budget = performed_at m stim limits (passing_turn m stim limits budget) (turns_before_end m stim limits)

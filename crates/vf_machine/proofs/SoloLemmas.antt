@@ -1,4 +1,4 @@
--- What becomes of a lone run, from the turn at which it stops.
+-- What becomes of a solo run, from the turn at which it stops.
 use Rattle.std.proofs.Common.{◌≡◌, ℕ, zero, suc, ◌+◌, ◌-◌, ◌<◌, ◌≤◌, Bool, true, false, cond, List, Some, None, nat_lt, refl, sym, ◌∙◌, ap, ap₂, arith, ⊎_elim}
 use Rattle.std.proofs.lemmas.Bool.{false≢true, cases_lt}
 use Rattle.vf_base.specs.declared.run.Limits.{Limits}
@@ -7,7 +7,7 @@ use Rattle.vf_machine.specs.Machine.{Machine}
 use Rattle.vf_machine.specs.Search.{first, count_below}
 use Rattle.vf_machine.specs.Run.{mark_at, turn_at, text_at, is_ending}
 use Rattle.vf_machine.specs.Pages.{pages_touched}
-use Rattle.vf_machine.specs.Alone.{alone, turns_alone, outcome_at, performed_at, passing_turn, turns_before_end, ending_of}
+use Rattle.vf_machine.specs.Solo.{solo, solo_turns, outcome_at, performed_at, passing_turn, turns_before_end, ending_of}
 use Rattle.vf_machine.proofs.Searches.{NoneBelow, IsFirst, first_is, first_none}
 use Rattle.vf_machine.proofs.Ends.{first_ending}
 
@@ -34,12 +34,12 @@ KeepsWithin m stim limits budget k = (j : ℕ) → j < k + 1 → nat_lt budget (
 
 -- a run that ends within its budget
 pub record Ended {S : Type 0} (m : Machine S) (stim : List ℕ) (limits : Limits) (budget k : ℕ) : Type 0 where
-  pub outcome : alone m stim limits budget ≡ Done (ending_of (mark_at m stim limits k)) (text_at m stim limits k) (turn_at m stim limits k).after.header.turns
-  pub turns : turns_alone m stim limits budget ≡ (turn_at m stim limits k).after.header.turns
+  pub outcome : solo m stim limits budget ≡ Done (ending_of (mark_at m stim limits k)) (text_at m stim limits k) (turn_at m stim limits k).after.header.turns
+  pub turns : solo_turns m stim limits budget ≡ (turn_at m stim limits k).after.header.turns
 
-pub alone_ended : {S : Type 0} (m : Machine S) (stim : List ℕ) (limits : Limits) (budget k : ℕ) → NoneBelow (λ j. is_ending (mark_at m stim limits j)) k
+pub solo_ended : {S : Type 0} (m : Machine S) (stim : List ℕ) (limits : Limits) (budget k : ℕ) → NoneBelow (λ j. is_ending (mark_at m stim limits j)) k
     → is_ending (mark_at m stim limits k) ≡ true → KeepsWithin m stim limits budget k → Ended m stim limits budget k
-alone_ended m stim limits budget k none here within =
+solo_ended m stim limits budget k none here within =
     let end = end_is m stim limits k none here in
     let passing : passing_turn m stim limits budget ≡ None =
     ap (λ n. first (λ j. nat_lt budget (pages_touched m stim limits j)) (n + 1)) end ∙ first_none (λ j. nat_lt budget (pages_touched m stim limits j)) (k + 1) within in
@@ -47,12 +47,12 @@ alone_ended m stim limits budget k none here within =
 
 -- a run whose next turn passes its budget
 pub record Passed {S : Type 0} (m : Machine S) (stim : List ℕ) (limits : Limits) (budget k : ℕ) : Type 0 where
-  pub outcome : alone m stim limits budget ≡ Pages (pages_touched m stim limits (suc k))
-  pub turns : turns_alone m stim limits budget ≡ k
+  pub outcome : solo m stim limits budget ≡ Pages (pages_touched m stim limits (suc k))
+  pub turns : solo_turns m stim limits budget ≡ k
 
-pub alone_passed : {S : Type 0} (m : Machine S) (stim : List ℕ) (limits : Limits) (budget k : ℕ) → NoneBelow (λ j. is_ending (mark_at m stim limits j)) (suc k)
+pub solo_passed : {S : Type 0} (m : Machine S) (stim : List ℕ) (limits : Limits) (budget k : ℕ) → NoneBelow (λ j. is_ending (mark_at m stim limits j)) (suc k)
     → KeepsWithin m stim limits budget k → nat_lt budget (pages_touched m stim limits (suc k)) ≡ true → Passed m stim limits budget k
-alone_passed m stim limits budget k none within passes =
+solo_passed m stim limits budget k none within passes =
     let end = turns_before_end m stim limits in
     let after : suc k ≤ end = first_after (λ j. is_ending (mark_at m stim limits j)) (limits.turns + 1) end (suc k) (first_ending m stim limits) none in
     let passing : passing_turn m stim limits budget ≡ Some (suc k) =
@@ -80,6 +80,16 @@ pub count_below-le : (p : ℕ → Bool) (n : ℕ) → count_below p n ≤ n
 unfolding count_below
 count_below-le p zero = omega arith
 count_below-le p (suc n) = one_more (p n) (count_below p n) n (count_below-le p n)
+
+-- more numbers pass a test that is easier
+one_if-mono : (a b : Bool) → (a ≡ true → b ≡ true) → one_if a ≤ one_if b
+one_if-mono false b h = omega arith
+one_if-mono true b h = let e : one_if b ≡ 1 = ap one_if (h refl) in omega (arith, e)
+
+pub count_below-mono : (p q : ℕ → Bool) (n : ℕ) → ((i : ℕ) → p i ≡ true → q i ≡ true) → count_below p n ≤ count_below q n
+unfolding count_below
+count_below-mono p q zero easier = omega arith
+count_below-mono p q (suc n) easier = omega (arith, count_below-mono p q n easier, one_if-mono (p n) (q n) (easier n))
 
 -- one number more that passes
 pub count_below-more : (p q : ℕ → Bool) (n i : ℕ) → i < n → p i ≡ false → q i ≡ true → ((j : ℕ) → (j ≡ i → ⊥) → p j ≡ q j) → count_below q n ≡ count_below p n + 1
