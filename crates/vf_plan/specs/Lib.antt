@@ -5,10 +5,3 @@ pub mod Answers
 pub mod Reading
 pub mod Rules
 pub mod Inner
-pub mod Subtree
-pub mod Limits
-pub mod Tables
-pub mod Jobs
-pub mod Kinds
-pub mod Setup
-pub mod SetupInner

@@ -1,5 +1,4 @@
 ghost use Rattle.std.specs.Prelude.{◌≡◌, ◌<◌, ◌++◌, IfOk, OnOk, length};
-ghost use Rattle.vf_plan.specs.Subtree.{is_below};
 ghost use Rattle.vf_plan.specs.Paths.{joined};
 ghost use Rattle.vf_plan.specs.Rules.{IsPlan};
 
@@ -7,7 +6,7 @@ use std::alloc::Global;
 use std::marker::Model;
 use vf_base::{Memory, NodeNo, Text};
 
-/// A node of a plan: what is read behind its parent, and, where it is a test, what is expected and
+/// A node of a plan: what is read after its parent, and, where it is a test, what is expected and
 /// what ends it.
 #[derive(Debug, Drop)]
 pub struct Node {
@@ -76,21 +75,4 @@ pub fn joined(alloc: Global, plan: &Plan, node: NodeNo) -> Result<Vec<u8>, Memor
     let mut bytes = Vec::new(alloc);
     push_path(plan, node, &mut bytes)?;
     Ok(bytes)
-}
-
-/// Whether a node of the plan is another or stands below it: it stands on the path from the root.
-pub fn is_below(plan: &Plan, top: NodeNo, node: NodeNo) -> bool
-    requires { node.0 < length plan.now }
-    ensures { result ≡ is_below plan.now top.0 node.0 }
-{
-    let mut at = node.0;
-    'nodes: loop {
-        if at == top.0 {
-            return true;
-        }
-        match plan.nodes[at as usize].parent {
-            Some(parent) => at = parent.0,
-            None => return false,
-        }
-    }
 }

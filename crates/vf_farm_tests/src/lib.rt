@@ -1,0 +1,8 @@
+//! Tests of the public calls of the farm's crates: vf_plan, vf_jobs, vf_image and vf_run. It has no code of its
+//! own, so that the crates that it tests are proved once.
+#![tactic(auto)]
+
+#[cfg(test)]
+mod limits;
+#[cfg(test)]
+mod plans;

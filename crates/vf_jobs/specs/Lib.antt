@@ -1,0 +1,7 @@
+pub mod Subtree
+pub mod Limits
+pub mod Tables
+pub mod Jobs
+pub mod Kinds
+pub mod Setup
+pub mod SetupInner

@@ -1,5 +1,0 @@
-use Rattle.vf_plan.proofs.LimitLemmas.{limits_fall}
-use Rattle.vf_plan.proofs.laws.reach_limits_fall.Goals as goal
-
-pub returns : goal.returns
-returns c = limits_fall

@@ -1,5 +1,0 @@
-use Rattle.vf_plan.proofs.SubtreeLemmas.{shares}
-use Rattle.vf_plan.proofs.laws.runs_are_shared.Goals as goal
-
-pub returns : goal.returns
-returns g c = λ m. shares m (c.prefix_law.ensures m)

@@ -1,4 +1,0 @@
-use Rattle.vf_plan.proofs.limits.+raise.Given as goal
-
-abbrev pub decreases-raise : goal.decreases-raise
-decreases-raise l = l.at.0
