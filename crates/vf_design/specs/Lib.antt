@@ -3,3 +3,4 @@ pub mod Inner
 pub mod State
 pub mod Step
 pub mod Words
+pub mod Turn

@@ -2,26 +2,27 @@
 use Rattle.std.proofs.Common.{◌≡◌, ℕ, suc, ◌≤◌, ◌<◌, Bool, true, false, ◌&&◌, cond, ◌==◌, nat_le, List, [], ◌∷◌, ◌++◌, length, slice_index, slice_set, refl, sym, ◌∙◌, ap, subst, arith, append_assoc, lit≤}
 use Rattle.std.proofs.lemmas.Bool.{false≢true, le-leb, leb-true, eqb-true, eq-eqb}
 use Rattle.std.proofs.lemmas.List.{set-get_or, append-nil}
+use Rattle.vf_base.specs.declared.write.Write.{Write}
 use Rattle.vf_machine.specs.Writes.{IsChange, AllChange, rises_from, written}
 use Rattle.vf_kernel.specs.Changes.{change_at}
 
-written_by : (b : Bool) (words : List ℕ) (at old new : ℕ) (more : List (ℕ × ℕ)) → (old == new) ≡ b → slice_index words at ≡ old
-    → written words (cond b [] ((at, new) ∷ []) ++ more) ≡ written (slice_set words at new) more
+written_by : (b : Bool) (words : List ℕ) (at old new : ℕ) (more : List Write) → (old == new) ≡ b → slice_index words at ≡ old
+    → written words (cond b [] (record { at = at; word = new } ∷ []) ++ more) ≡ written (slice_set words at new) more
 written_by true words at old new more e is =
     let same : slice_index words at ≡ new = is ∙ eqb-true old new e in
     ap (λ ws. written ws more) (sym (set-get_or words at 0) ∙ ap (slice_set words at) same)
 written_by false words at old new more e is = refl
 
-written_change : (words : List ℕ) (at old new : ℕ) (more : List (ℕ × ℕ)) → slice_index words at ≡ old
+written_change : (words : List ℕ) (at old new : ℕ) (more : List Write) → slice_index words at ≡ old
     → written words (change_at at old new ++ more) ≡ written (slice_set words at new) more
 written_change words at old new more is = written_by (old == new) words at old new more refl is
 
-change_by : (b : Bool) (words : List ℕ) (at old new : ℕ) (more : List (ℕ × ℕ)) → (old == new) ≡ b → at < length words → slice_index words at ≡ old
-    → AllChange words more → AllChange words (cond b [] ((at, new) ∷ []) ++ more)
+change_by : (b : Bool) (words : List ℕ) (at old new : ℕ) (more : List Write) → (old == new) ≡ b → at < length words → slice_index words at ≡ old
+    → AllChange words more → AllChange words (cond b [] (record { at = at; word = new } ∷ []) ++ more)
 change_by true words at old new more e below is rest = rest
 change_by false words at old new more e below is rest = (below, (λ same. false≢true (sym e ∙ eq-eqb old new (sym is ∙ same))), rest)
 
-change_more : (words : List ℕ) (at old new : ℕ) (more : List (ℕ × ℕ)) → at < length words → slice_index words at ≡ old
+change_more : (words : List ℕ) (at old new : ℕ) (more : List Write) → at < length words → slice_index words at ≡ old
     → AllChange words more → AllChange words (change_at at old new ++ more)
 change_more words at old new more below is rest = change_by (old == new) words at old new more refl below is rest
 
@@ -38,18 +39,18 @@ second_of_both : (a b : Bool) → a && b ≡ true → b ≡ true
 second_of_both true b h = h
 second_of_both false b h = absurd (false≢true h)
 
-rises_lower : (from at : ℕ) (more : List (ℕ × ℕ)) → from ≤ at → rises_from at more ≡ true → rises_from from more ≡ true
+rises_lower : (from at : ℕ) (more : List Write) → from ≤ at → rises_from at more ≡ true → rises_from from more ≡ true
 rises_lower from at [] le h = refl
 rises_lower from at (write ∷ more) le h =
-    let above = leb-true at write.0 (first_of_both (nat_le at write.0) (rises_from (suc write.0) more) h) in
-    both (nat_le from write.0) (rises_from (suc write.0) more) (le-leb from write.0 (omega arith)) (second_of_both (nat_le at write.0) (rises_from (suc write.0) more) h)
+    let above = leb-true at write.at (first_of_both (nat_le at write.at) (rises_from (suc write.at) more) h) in
+    both (nat_le from write.at) (rises_from (suc write.at) more) (le-leb from write.at (omega arith)) (second_of_both (nat_le at write.at) (rises_from (suc write.at) more) h)
 
-rises_by : (b : Bool) (from at new : ℕ) (more : List (ℕ × ℕ)) → from ≤ at → rises_from (suc at) more ≡ true
-    → rises_from from (cond b [] ((at, new) ∷ []) ++ more) ≡ true
+rises_by : (b : Bool) (from at new : ℕ) (more : List Write) → from ≤ at → rises_from (suc at) more ≡ true
+    → rises_from from (cond b [] (record { at = at; word = new } ∷ []) ++ more) ≡ true
 rises_by true from at new more le h = rises_lower from (suc at) more (omega arith) h
 rises_by false from at new more le h = both (nat_le from at) (rises_from (suc at) more) (le-leb from at le) h
 
-rises_more : (from at old new : ℕ) (more : List (ℕ × ℕ)) → from ≤ at → rises_from (suc at) more ≡ true
+rises_more : (from at old new : ℕ) (more : List Write) → from ≤ at → rises_from (suc at) more ≡ true
     → rises_from from (change_at at old new ++ more) ≡ true
 rises_more from at old new more le h = rises_by (old == new) from at new more le h
 
@@ -59,7 +60,7 @@ words_with rest run head tail place status ones unknown =
     0 ∷ run ∷ head ∷ tail ∷ 0 ∷ 0 ∷ 0 ∷ 0 ∷ 0 ∷ 0 ∷ 0 ∷ 0 ∷ 0 ∷ 0 ∷ 0 ∷ 0 ∷ place ∷ status ∷ 0 ∷ 0 ∷ ones ∷ unknown ∷ rest
 
 -- the writes, right to left
-abbrev chain : (r r' h h' t t' p p' s s' o o' u u' : ℕ) → List (ℕ × ℕ)
+abbrev chain : (r r' h h' t t' p p' s s' o o' u u' : ℕ) → List Write
 chain r r' h h' t t' p p' s s' o o' u u' =
     change_at 1 r r' ++ (change_at 2 h h' ++ (change_at 3 t t' ++ (change_at 16 p p' ++ (change_at 17 s s' ++ (change_at 20 o o' ++ (change_at 21 u u' ++ []))))))
 
@@ -88,9 +89,9 @@ pub noted : (r r' h h' t t' p p' s s' o o' u u' : ℕ)
     ≡ chain r r' h h' t t' p p' s s' o o' u u'
 noted r r' h h' t t' p p' s s' o o' u u' = simp (append_assoc, append-nil)
 
-pub noted_changes : (rest : List ℕ) (writes : List (ℕ × ℕ)) (r r' h h' t t' p p' s s' o o' u u' : ℕ)
+pub noted_changes : (rest : List ℕ) (writes : List Write) (r r' h h' t t' p p' s s' o o' u u' : ℕ)
     → writes ≡ (((((([] ++ change_at 1 r r') ++ change_at 2 h h') ++ change_at 3 t t') ++ change_at 16 p p') ++ change_at 17 s s') ++ change_at 20 o o') ++ change_at 21 u u'
     → IsChange (words_with rest r h t p s o u) (words_with rest r' h' t' p' s' o' u') writes
 noted_changes rest writes r r' h h' t t' p p' s s' o o' u u' e =
-    subst (λ (ws : List (ℕ × ℕ)). IsChange (words_with rest r h t p s o u) (words_with rest r' h' t' p' s' o' u') ws)
+    subst (λ (ws : List Write). IsChange (words_with rest r h t p s o u) (words_with rest r' h' t' p' s' o' u') ws)
     (sym (e ∙ noted r r' h h' t t' p p' s s' o o' u u')) (chain_changes rest r r' h h' t t' p p' s s' o o' u u')

@@ -1,5 +1,5 @@
 -- What the kernel reads from words.
-use Rattle.std.specs.Prelude.{◌≡◌, ℕ, List, length}
+use Rattle.std.specs.Prelude.{ℕ, length}
 use Rattle.vf_kernel.specs.declared.state.Status as kernel
 use Rattle.vf_kernel.specs.declared.state.Status.TheVariants as statuses
 use Rattle.vf_kernel.specs.declared.state.State as read
@@ -7,13 +7,7 @@ use Rattle.vf_kernel.specs.declared.step.Move as step
 use Rattle.vf_kernel.specs.declared.step.Move.TheVariants as moves
 use Rattle.std.specs.Option.{option_to_list}
 use Rattle.vf_machine.specs.Machine.{Move, go, stop}
-use Rattle.vf_design.specs.Program.{Program}
-use Rattle.vf_design.specs.State.{State, Status, halted, active, running, IsSound}
-use Rattle.vf_design.specs.Words.{words_of}
-
--- the words are those of some sound state
-abbrev pub HoldsState : Program → List ℕ → Type 0
-HoldsState p words = (s : State) × IsSound p s × (words_of p s ≡ words)
+use Rattle.vf_design.specs.State.{State, Status, halted, active, running}
 
 abbrev pub status_of : kernel.Status → Status
 status_of statuses.Halted = halted

@@ -1,17 +1,16 @@
-ghost use Rattle.std.specs.Prelude.{◌≡◌, ℕ, ◌+◌, ◌-◌, ◌<◌, ◌≤◌, ◌^◌, [], None, length, nat_lt, slice_get, IfOk, if◌then◌else◌};
+ghost use Rattle.std.specs.Prelude.{◌≡◌, ℕ, ◌+◌, ◌-◌, ◌<◌, ◌≤◌, ◌^◌, ◌++◌, [], None, length, nat_lt, slice_get, IfOk, if◌then◌else◌};
 ghost use Rattle.std.specs.Option.{option_to_list};
 ghost use Rattle.vf_machine.specs.Run.{turn_of, saved_mark};
 ghost use Rattle.vf_machine.specs.Laws.{IsStimulus};
 ghost use Rattle.vf_design.specs.State as model;
 ghost use Rattle.vf_design.specs.State.{IsSound};
 ghost use Rattle.vf_design.specs.Words.{words_of, machine_of};
-ghost use Rattle.vf_kernel.specs.State.{HoldsState, state_of, move_of};
-ghost use Rattle.vf_kernel.specs.Turn.{IsTurn};
+ghost use Rattle.vf_design.specs.Turn.{HoldsState, IsTurn};
+ghost use Rattle.vf_kernel.specs.State.{state_of, move_of};
 
 use crate::state::{State, Status};
 use crate::step::{Move, step};
 use crate::writes::writes_between;
-use std::alloc::Global;
 use vf_base::{Ending, Header, Limits, Memory, SaveKind, Text};
 use vf_design::{Design, Mark, Turn, Words};
 
@@ -25,28 +24,30 @@ pub fn reads_next<W: Words>(design: &Design, words: &W) -> bool
     State::read(design, words).reads(design)
 }
 
-/// Performs one turn on the words of a sound state, and says what it changes; nothing is changed yet.
-/// The only refusal is want of memory.
+/// Performs one turn on the words of a sound state, and says in `into` what it changes; nothing is
+/// changed yet. What `into` held goes, and its lists keep their room. The only refusal is that it is
+/// out of memory; then nothing is known of `into`.
 pub fn turn<W: Words>(
-    alloc: Global,
     design: &Design,
     words: &W,
     header: &Header,
     stim: &[u8],
     limits: &Limits,
-) -> Result<Turn, Memory>
+    into: &mut Turn,
+) -> Result<(), Memory>
     requires state { HoldsState design.now (W.contents words.now) }
     requires reads { header.now.reads < 2 ^ 64 - 1 }
     requires past { W.past_end words.now ≡ nat_lt (length stim.now) header.now.reads }
-    ensures { IfOk result (λ turn. (s : model.State) → IsSound design.now s → words_of design.now s ≡ W.contents words.now
-        → IsTurn design.now s (turn_of (machine_of design.now) stim.now limits.now (record { state = s; header = header.now })) turn) }
+    ensures { IfOk result (λ _. (s : model.State) → IsSound design.now s → words_of design.now s ≡ W.contents words.now
+        → IsTurn design.now s (turn_of (machine_of design.now) stim.now limits.now (record { state = s; header = header.now })) into.new) }
 {
+    into.clear();
     let state = State::read(design, words);
     if let Status::Halted = state.status {
-        return Ok(ended(alloc, *header, Ending::Drained));
+        return ended(*header, Ending::Drained, into);
     }
     if limits.turns <= header.turns {
-        return Ok(ended(alloc, *header, Ending::Turns));
+        return ended(*header, Ending::Turns, into);
     }
     let reads = state.reads(design);
     let next = step(design, state, next_byte(reads, header.reads, stim));
@@ -55,7 +56,7 @@ pub fn turn<W: Words>(
             turns: header.turns + 1,
             ..*header
         };
-        return Ok(ended(alloc, counted, Ending::Output));
+        return ended(counted, Ending::Output, into);
     }
     let counted = Header {
         turns: header.turns + 1,
@@ -63,17 +64,18 @@ pub fn turn<W: Words>(
         written: header.written + next.bytes(),
     };
     match next {
-        Move::Stop(ending) => Ok(ended(alloc, counted, ending)),
+        Move::Stop(ending) => ended(counted, ending, into),
         Move::Go {
             state: after,
             byte,
             save,
-        } => Ok(Turn {
-            writes: writes_between(alloc, &state, &after)?,
-            text: text_of(alloc, byte)?,
-            header: counted,
-            mark: mark_of(save),
-        }),
+        } => {
+            writes_between(&state, &after, &mut into.writes)?;
+            show(byte, &mut into.text)?;
+            into.header = counted;
+            into.mark = mark_of(save);
+            Ok(())
+        }
     }
 }
 
@@ -98,19 +100,13 @@ fn passes(limit: u64, written: u64, bytes: u64) -> bool
     }
 }
 
-/// A turn that ends the run and changes nothing.
-fn ended(alloc: Global, header: Header, ending: Ending) -> Turn
-    ensures writes { result.writes.items ≡ [] }
-    ensures text { result.text ≡ [] }
-    ensures header { result.header ≡ header }
-    ensures mark { result.mark ≡ Mark.Ended ending }
+/// The turn ends the run and changes nothing.
+fn ended(header: Header, ending: Ending, into: &mut Turn) -> Result<(), Memory>
+    ensures { IfOk result (λ _. into.new ≡ record into.old { header = header; mark = Mark.Ended ending }) }
 {
-    Turn {
-        writes: Vec::new(alloc),
-        text: Text::new(Vec::new(alloc)),
-        header,
-        mark: Mark::Ended(ending),
-    }
+    into.header = header;
+    into.mark = Mark::Ended(ending);
+    Ok(())
 }
 
 fn mark_of(save: Option<SaveKind>) -> Mark
@@ -122,13 +118,12 @@ fn mark_of(save: Option<SaveKind>) -> Mark
     }
 }
 
-/// The bytes that the turn writes.
-fn text_of(alloc: Global, byte: Option<u8>) -> Result<Text, Memory>
-    ensures { IfOk result (λ text. text ≡ option_to_list byte) }
+/// Adds the byte that the turn writes.
+fn show(byte: Option<u8>, into: &mut Text) -> Result<(), Memory>
+    ensures { IfOk result (λ _. into.new ≡ into.old ++ option_to_list byte) }
 {
-    let mut bytes = Vec::new(alloc);
-    if let Some(byte) = byte {
-        bytes.push(byte)?;
+    match byte {
+        Some(byte) => into.push_all(&[byte]),
+        None => Ok(()),
     }
-    Ok(Text::new(bytes))
 }

@@ -4,7 +4,8 @@ ghost use Rattle.vf_design.specs.State as model;
 ghost use Rattle.vf_design.specs.State.{IsSound};
 ghost use Rattle.vf_design.specs.Step.{at, instruction, is_at_read};
 ghost use Rattle.vf_design.specs.Words.{words_of, status_word, ones_word, unknown_word};
-ghost use Rattle.vf_kernel.specs.State.{HoldsState, state_of, status_of};
+ghost use Rattle.vf_design.specs.Turn.{HoldsState};
+ghost use Rattle.vf_kernel.specs.State.{state_of, status_of};
 
 use vf_design::{Design, Instr, Words};
 

@@ -1,4 +1,4 @@
-ghost use Rattle.std.specs.Prelude.{◌≡◌, ◌++◌, IfOk};
+ghost use Rattle.std.specs.Prelude.{◌≡◌, ◌++◌, [], IfOk};
 ghost use Rattle.vf_machine.specs.Writes.{IsChange};
 ghost use Rattle.vf_design.specs.Program.{Program};
 ghost use Rattle.vf_design.specs.Words as defined;
@@ -7,42 +7,29 @@ ghost use Rattle.vf_kernel.specs.State.{state_of};
 ghost use Rattle.vf_kernel.specs.Changes.{change_at};
 
 use crate::state::{State, Status};
-use std::alloc::Global;
-use vf_base::Memory;
+use vf_base::{Memory, Write};
 
-/// The most words that differ between two states.
-const MOST: usize = 7;
-
-/// The words that differ between two states.
-pub fn writes_between(
-    alloc: Global,
-    before: &State,
-    after: &State,
-) -> Result<Vec<(u32, u64)>, Memory>
-    ensures { IfOk result (λ writes. (p : Program) → IsChange (words_of p (state_of before.now)) (words_of p (state_of after.now)) writes.items) }
+/// Adds the words that differ between two states to an empty list.
+pub fn writes_between(before: &State, after: &State, into: &mut Vec<Write>) -> Result<(), Memory>
+    requires { into.old.items ≡ [] }
+    ensures { IfOk result (λ _. (p : Program) → IsChange (words_of p (state_of before.now)) (words_of p (state_of after.now)) into.new.items) }
 {
-    let mut writes = Vec::with_capacity(alloc, MOST)?;
-    note(&mut writes, 1, running_word(before), running_word(after))?;
-    note(&mut writes, 2, active_word(before), active_word(after))?;
-    note(&mut writes, 3, active_word(before), active_word(after))?;
-    note(
-        &mut writes,
-        16,
-        u64::from(before.place),
-        u64::from(after.place),
-    )?;
-    note(&mut writes, 17, status_word(before), status_word(after))?;
-    note(&mut writes, 20, ones_word(before), ones_word(after))?;
-    note(&mut writes, 21, unknown_word(before), unknown_word(after))?;
-    Ok(writes)
+    note(into, 1, running_word(before), running_word(after))?;
+    note(into, 2, active_word(before), active_word(after))?;
+    note(into, 3, active_word(before), active_word(after))?;
+    note(into, 16, u64::from(before.place), u64::from(after.place))?;
+    note(into, 17, status_word(before), status_word(after))?;
+    note(into, 20, ones_word(before), ones_word(after))?;
+    note(into, 21, unknown_word(before), unknown_word(after))?;
+    Ok(())
 }
 
 /// Adds a write where the word differs.
-fn note(writes: &mut Vec<(u32, u64)>, at: u32, before: u64, after: u64) -> Result<(), Memory>
-    ensures { IfOk result (λ _. writes.new.items ≡ writes.old.items ++ change_at at before after) }
+fn note(into: &mut Vec<Write>, at: u32, before: u64, after: u64) -> Result<(), Memory>
+    ensures { IfOk result (λ _. into.new.items ≡ into.old.items ++ change_at at before after) }
 {
     if before != after {
-        writes.push((at, after))?;
+        into.push(Write { at, word: after })?;
     }
     Ok(())
 }

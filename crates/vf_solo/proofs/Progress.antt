@@ -5,6 +5,7 @@ use Rattle.std.proofs.lemmas.List.{get_or-set_same, get_or-set_other, length-set
 use Rattle.vf_base.specs.declared.run.Header.{Header}
 use Rattle.vf_base.specs.declared.run.Limits.{Limits}
 use Rattle.vf_base.specs.declared.run.Ending.{Ending}
+use Rattle.vf_base.specs.declared.write.Write.{Write}
 use Rattle.vf_machine.specs.declared.mark.Mark.{Mark}
 use Rattle.vf_machine.specs.declared.mark.Mark.TheVariants as marks
 use Rattle.vf_machine.specs.Search.{count_below}
@@ -19,7 +20,7 @@ use Rattle.vf_design.specs.State.{IsSound}
 use Rattle.vf_design.specs.Step.{start}
 use Rattle.vf_design.specs.Words.{words_of, machine_of}
 use Rattle.vf_design.proofs.CallerLemmas.{start_sound, length-words_of}
-use Rattle.vf_kernel.specs.Turn.{IsTurn}
+use Rattle.vf_design.specs.Turn.{IsTurn}
 use Rattle.vf_solo.proofs.FlagLemmas.{count_below-none}
 use Rattle.vf_solo.specs.Flags.{flag_at, flags_set, marked}
 use Rattle.vf_solo.specs.Writes.{AllInside}
@@ -57,13 +58,13 @@ flags_count p stim limits touched k pages flags =
     ∙ ap (count_below (is_touched (machine_of p) stim limits k)) (sym (pages_alike p))
 
 -- writes inside the words are on pages of the state
-pub inside_pages : (words : List ℕ) (writes : List (ℕ × ℕ)) (count : ℕ) → length words ≡ count → AllChange words writes → AllInside count writes
+pub inside_pages : (words : List ℕ) (writes : List Write) (count : ℕ) → length words ≡ count → AllChange words writes → AllInside count writes
 inside_pages words [] count e change = tt
 inside_pages words (write ∷ more) count e change = (omega (arith, change.0), inside_pages words more count e change.2)
 
-length-marked : (flags : List Bool) (writes : List (ℕ × ℕ)) → length (marked flags writes) ≡ length flags
+length-marked : (flags : List Bool) (writes : List Write) → length (marked flags writes) ≡ length flags
 length-marked flags [] = refl
-length-marked flags (write ∷ more) = length-marked (slice_set flags (write.0 / 64) true) more ∙ length-set flags (write.0 / 64) true
+length-marked flags (write ∷ more) = length-marked (slice_set flags (write.at / 64) true) more ∙ length-set flags (write.at / 64) true
 
 flag_by : (b : Bool) (flags : List Bool) (at page : ℕ) (rest : Bool) → (at == page) ≡ b → page < length flags
     → flag_at (slice_set flags at true) page || rest ≡ flag_at flags page || (b || rest)
@@ -73,11 +74,11 @@ flag_by true flags at page rest e within =
 flag_by false flags at page rest e within =
     ap (λ b. b || rest) (get_or-set_other flags at page true false (λ same. eqb-false at page e (sym same)))
 
-flag_of_marked : (flags : List Bool) (writes : List (ℕ × ℕ)) (page : ℕ) → page < length flags → flag_at (marked flags writes) page ≡ flag_at flags page || writes_page writes page
+flag_of_marked : (flags : List Bool) (writes : List Write) (page : ℕ) → page < length flags → flag_at (marked flags writes) page ≡ flag_at flags page || writes_page writes page
 flag_of_marked flags [] page within = or_false (flag_at flags page)
 flag_of_marked flags (write ∷ more) page within =
-    flag_of_marked (slice_set flags (write.0 / 64) true) more page (omega (arith, length-set flags (write.0 / 64) true))
-    ∙ flag_by (write.0 / 64 == page) flags (write.0 / 64) page (writes_page more page) refl within
+    flag_of_marked (slice_set flags (write.at / 64) true) more page (omega (arith, length-set flags (write.at / 64) true))
+    ∙ flag_by (write.at / 64 == page) flags (write.at / 64) page (writes_page more page) refl within
 
 -- the run at time zero
 pub running_at_zero : (p : Program) (stim : List ℕ) (limits : Limits) (budget : ℕ) (words : List ℕ) (touched : List Bool) → IsWellFormed p

@@ -1,5 +1,7 @@
 -- One flag for each page, set once the page is touched.
 use Rattle.std.specs.Prelude.{ℕ, ◌/◌, Bool, true, false, List, [], ◌∷◌, length, slice_index_or, slice_set}
+use Rattle.vf_base.specs.declared.write.TheConstants.{PAGE_WORDS}
+use Rattle.vf_base.specs.declared.write.Write.{Write}
 use Rattle.vf_machine.specs.Search.{count_below}
 
 -- whether the page's flag is set
@@ -11,6 +13,6 @@ abbrev pub flags_set : List Bool → ℕ
 flags_set flags = count_below (flag_at flags) (length flags)
 
 -- the flags after the pages of the writes are set too
-abbrev pub marked : List Bool → List (ℕ × ℕ) → List Bool
+abbrev pub marked : List Bool → List Write → List Bool
 marked flags [] = flags
-marked flags (write ∷ more) = marked (slice_set flags (write.0 / 64) true) more
+marked flags (write ∷ more) = marked (slice_set flags (write.at / PAGE_WORDS) true) more

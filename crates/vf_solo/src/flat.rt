@@ -2,7 +2,8 @@ ghost use Rattle.std.specs.Prelude.{◌≡◌, vec_len};
 ghost use Rattle.vf_machine.specs.Writes.{written};
 ghost use Rattle.vf_solo.specs.Writes.{AllInside};
 
-use vf_kernel::Words;
+use vf_base::Write;
+use vf_design::Words;
 
 /// All words of a state in one list.
 #[derive(Drop)]
@@ -27,11 +28,11 @@ impl Words for Flat {
 }
 
 /// Performs the writes.
-pub fn perform(words: &mut Vec<u64>, writes: &[(u32, u64)])
+pub fn perform(words: &mut Vec<u64>, writes: &[Write])
     requires { AllInside (vec_len words.old) writes.now }
     ensures { words.new.items ≡ written words.old.items writes.now }
 {
     for write in writes {
-        words[write.0 as usize] = write.1;
+        words[write.at as usize] = write.word;
     }
 }

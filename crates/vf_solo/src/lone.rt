@@ -7,12 +7,12 @@ use crate::touched::Touched;
 use std::alloc::Global;
 use std::sync::ledger::Ledger;
 use vf_base::{Header, Limits, Memory, Outcome, Steps, Text};
-use vf_design::{Design, words_at_zero};
-use vf_kernel::{Mark, turn};
+use vf_design::{Design, Mark, Turn, words_at_zero};
+use vf_kernel::turn;
 
 /// Runs a design alone, from time zero, on a stimulus. `budget` is the most pages of 64 words that the
 /// run may touch; the turn that would pass it is not performed. The step counter moves by the turns
-/// performed, also where memory is wanting. The only refusal is want of memory.
+/// performed, also where it is out of memory, which is the only refusal.
 pub fn solo<L: Ledger>(
     alloc: Global,
     design: &Design,
@@ -38,8 +38,9 @@ pub fn solo<L: Ledger>(
         reads: 0,
         written: 0,
     };
+    let mut next = Turn::new(alloc);
     'turns: loop {
-        let next = turn(alloc, design, &flat, &header, stim, limits)?;
+        turn(design, &flat, &header, stim, limits, &mut next)?;
         if let Mark::Ended(ending) = next.mark {
             if next.header.turns > header.turns {
                 steps.tick();

@@ -42,7 +42,7 @@ fn echo(alloc: Global) -> Result<Design, AllocError> {
     })
 }
 
-/// The solo run on "ab", or nothing where memory is wanting.
+/// The solo run on "ab", or nothing where it is out of memory.
 fn outcome<L: Ledger>(
     alloc: Global,
     limits: &Limits,
@@ -68,11 +68,7 @@ fn a_lone_run_ends(rt: HostRuntime) -> Result<(), Fail> {
         (11, 2, Ending::Turns, "ab", 11),
         (12, 1, Ending::Output, "a", 8),
     ] {
-        let limits = Limits {
-            turns,
-            output,
-            slots: 1,
-        };
+        let limits = Limits { turns, output };
         let answer = outcome::<Brand>(rt.alloc(), &limits, 1, Blank::new(1))?;
         let Some(
             Outcome::Done {
@@ -96,7 +92,6 @@ fn a_lone_run_passes_its_budget(rt: HostRuntime) -> Result<(), Fail> {
     let limits = Limits {
         turns: 12,
         output: 2,
-        slots: 1,
     };
     let answer = outcome::<Brand>(rt.alloc(), &limits, 0, Blank::new(1))?;
     let Some(Outcome::Pages(pages)) = answer else {

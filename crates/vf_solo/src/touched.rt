@@ -4,7 +4,7 @@ ghost use Rattle.vf_solo.specs.Writes.{AllInside};
 
 use std::alloc::Global;
 use std::marker::Model;
-use vf_base::Memory;
+use vf_base::{Memory, PAGE_WORDS, Write};
 
 /// The pages that a run has touched, and how many they are. Contracts see a flag for each page.
 #[derive(Drop)]
@@ -43,12 +43,12 @@ impl Touched {
     }
 
     /// Touches the pages of the writes.
-    pub fn mark(&mut self, writes: &[(u32, u64)])
+    pub fn mark(&mut self, writes: &[Write])
         requires { AllInside (64 * length self.old) writes.now }
         ensures { self.new ≡ marked self.old writes.now }
     {
         for write in writes {
-            self.mark_page((write.0 / 64) as usize);
+            self.mark_page((write.at / PAGE_WORDS) as usize);
         }
     }
 

@@ -9,7 +9,7 @@ pub returns : goal.returns
 returns c = λ p.
     let s = state_of c.args.before.now in
     let t = state_of c.args.after.now in
-    noted_changes (replicate (word_count p - 22) 0) c.note-7.new.writes.items
+    noted_changes (replicate (word_count p - 22) 0) c.note-7.new.into.items
     (defined.running_word s.status) (defined.running_word t.status)
     (defined.active_word s.status) (defined.active_word t.status)
     (defined.active_word s.status) (defined.active_word t.status)
@@ -18,7 +18,7 @@ returns c = λ p.
     (defined.ones_word s.value) (defined.ones_word t.value)
     (defined.unknown_word s.value) (defined.unknown_word t.value)
     (cc (
-      c.in_ok-writes.ensures.items,
+      c.requires,
       c.in_ok-note.ensures,
       c.in_ok-note-2.ensures,
       c.in_ok-note-3.ensures,

@@ -33,8 +33,8 @@ returns-in-Ended-clause-outcome g c =
     let run = c.turns.invariant.running in
     let k = c.turns.header.turns in
     let m = machine_of c.args.design.now in
-    let turn = next_turn c.args.design.now c.args.stim.now c.args.limits.now c.args.budget c.turns.flat.words.items c.turns.touched c.turns.header c.turns.text k c.in_ok-next.next run
-    (c.in_ok-next.ensures (moment_at m c.args.stim.now c.args.limits.now k).state run.sound run.words_are) in
+    let turn = next_turn c.args.design.now c.args.stim.now c.args.limits.now c.args.budget c.turns.flat.words.items c.turns.touched c.turns.header c.turns.text k c.turn.new.into run
+    (c.in_ok-turn.ensures (moment_at m c.args.stim.now c.args.limits.now k).state run.sound run.words_are) in
     let mark = sym turn.mark ∙ c.in-Ended.is in
     let done = solo_ended m c.args.stim.now c.args.limits.now c.args.budget k run.goes_on (ap is_ending mark) run.within in
     sym (done.outcome ∙ (λ i. Done (ending_of (mark i)) (sym run.text_is i) (sym turn.header_is i).turns))
@@ -45,8 +45,8 @@ returns-in-Ended-clause-steps g c =
     let k = c.turns.header.turns in
     let m = machine_of c.args.design.now in
     let now = moment_at m c.args.stim.now c.args.limits.now k in
-    let turn = next_turn c.args.design.now c.args.stim.now c.args.limits.now c.args.budget c.turns.flat.words.items c.turns.touched c.turns.header c.turns.text k c.in_ok-next.next run
-    (c.in_ok-next.ensures now.state run.sound run.words_are) in
+    let turn = next_turn c.args.design.now c.args.stim.now c.args.limits.now c.args.budget c.turns.flat.words.items c.turns.touched c.turns.header c.turns.text k c.turn.new.into run
+    (c.in_ok-turn.ensures now.state run.sound run.words_are) in
     let mark = sym turn.mark ∙ c.in-Ended.is in
     let done = solo_ended m c.args.stim.now c.args.limits.now c.args.budget k run.goes_on (ap is_ending mark) run.within in
     let once = counts_once m c.args.stim.now c.args.limits.now now in
@@ -62,9 +62,9 @@ mark-requires g c =
     let run = c.turns.invariant.running in
     let k = c.turns.header.turns in
     let m = machine_of c.args.design.now in
-    let turn = next_turn c.args.design.now c.args.stim.now c.args.limits.now c.args.budget c.turns.flat.words.items c.turns.touched c.turns.header c.turns.text k c.in_ok-next.next run
-    (c.in_ok-next.ensures (moment_at m c.args.stim.now c.args.limits.now k).state run.sound run.words_are) in
-    rw c.deref.ensures.value (inside_pages c.turns.flat.words.items c.in_ok-next.next.writes.items (64 * length c.turns.touched)
+    let turn = next_turn c.args.design.now c.args.stim.now c.args.limits.now c.args.budget c.turns.flat.words.items c.turns.touched c.turns.header c.turns.text k c.turn.new.into run
+    (c.in_ok-turn.ensures (moment_at m c.args.stim.now c.args.limits.now k).state run.sound run.words_are) in
+    rw c.deref.ensures.value (inside_pages c.turns.flat.words.items c.turn.new.into.writes.items (64 * length c.turns.touched)
     (length-words c.args.design.now c.args.stim.now c.args.limits.now c.args.budget c.turns.flat.words.items c.turns.touched c.turns.header c.turns.text k run) turn.change.change)
 
 pub returns-then-count-budget : goal.returns-then-count-budget
@@ -77,12 +77,12 @@ returns-then-count-budget g c =
     let k = c.turns.header.turns in
     let m = machine_of p in
     let now = moment_at m stim limits k in
-    let turn = next_turn p stim limits c.args.budget words c.turns.touched c.turns.header c.turns.text k c.in_ok-next.next run (c.in_ok-next.ensures now.state run.sound run.words_are) in
-    let going = not_ended c.in_ok-next.next.mark c.in_default.not-Ended in
+    let turn = next_turn p stim limits c.args.budget words c.turns.touched c.turns.header c.turns.text k c.turn.new.into run (c.in_ok-turn.ensures now.state run.sound run.words_are) in
+    let going = not_ended c.turn.new.into.mark c.in_default.not-Ended in
     let going_now : is_ending (mark_at m stim limits k) ≡ false = ap is_ending (sym turn.mark) ∙ going in
-    let flags = next_flags p stim limits c.args.budget words c.turns.touched c.turns.header c.turns.text k c.in_ok-next.next run turn in
-    let touched : c.mark.new.self ≡ marked c.turns.touched c.in_ok-next.next.writes.items = c.mark.ensures ∙ ap (marked c.turns.touched) c.deref.ensures.value in
-    let counted : c.count.result ≡ flags_set (marked c.turns.touched c.in_ok-next.next.writes.items) = c.count.ensures ∙ ap flags_set touched in
+    let flags = next_flags p stim limits c.args.budget words c.turns.touched c.turns.header c.turns.text k c.turn.new.into run turn in
+    let touched : c.mark.new.self ≡ marked c.turns.touched c.turn.new.into.writes.items = c.mark.ensures ∙ ap (marked c.turns.touched) c.deref.ensures.value in
+    let counted : c.count.result ≡ flags_set (marked c.turns.touched c.turn.new.into.writes.items) = c.count.ensures ∙ ap flags_set touched in
     let passes : nat_lt c.args.budget (pages_touched m stim limits (suc k)) ≡ true =
     ap (nat_lt c.args.budget) (sym (counted ∙ flags.count)) ∙ lt-ltb c.args.budget c.count.result c.if-count-budget.true in
     let stopped = solo_passed m stim limits c.args.budget k (none_below_more (λ j. is_ending (mark_at m stim limits j)) k run.goes_on going_now) run.within passes in
@@ -98,9 +98,9 @@ perform-requires g c =
     let run = c.turns.invariant.running in
     let k = c.turns.header.turns in
     let m = machine_of c.args.design.now in
-    let turn = next_turn c.args.design.now c.args.stim.now c.args.limits.now c.args.budget c.turns.flat.words.items c.turns.touched c.turns.header c.turns.text k c.in_ok-next.next run
-    (c.in_ok-next.ensures (moment_at m c.args.stim.now c.args.limits.now k).state run.sound run.words_are) in
-    rw c.deref-in-turns.ensures.value (inside_pages c.turns.flat.words.items c.in_ok-next.next.writes.items (vec_len c.turns.flat.words) (omega (arith, c.turns.flat.words.ok)) turn.change.change)
+    let turn = next_turn c.args.design.now c.args.stim.now c.args.limits.now c.args.budget c.turns.flat.words.items c.turns.touched c.turns.header c.turns.text k c.turn.new.into run
+    (c.in_ok-turn.ensures (moment_at m c.args.stim.now c.args.limits.now k).state run.sound run.words_are) in
+    rw c.deref-in-turns.ensures.value (inside_pages c.turns.flat.words.items c.turn.new.into.writes.items (vec_len c.turns.flat.words) (omega (arith, c.turns.flat.words.ok)) turn.change.change)
 
 pub turns-preserved : goal.turns-preserved
 turns-preserved g c =
@@ -112,26 +112,26 @@ turns-preserved g c =
     let k = c.turns.header.turns in
     let m = machine_of p in
     let now = moment_at m stim limits k in
-    let turn = next_turn p stim limits c.args.budget words c.turns.touched c.turns.header c.turns.text k c.in_ok-next.next run (c.in_ok-next.ensures now.state run.sound run.words_are) in
-    let going = not_ended c.in_ok-next.next.mark c.in_default.not-Ended in
+    let turn = next_turn p stim limits c.args.budget words c.turns.touched c.turns.header c.turns.text k c.turn.new.into run (c.in_ok-turn.ensures now.state run.sound run.words_are) in
+    let going = not_ended c.turn.new.into.mark c.in_default.not-Ended in
     let going_now : is_ending (mark_at m stim limits k) ≡ false = ap is_ending (sym turn.mark) ∙ going in
-    let flags = next_flags p stim limits c.args.budget words c.turns.touched c.turns.header c.turns.text k c.in_ok-next.next run turn in
-    let touched : c.mark.new.self ≡ marked c.turns.touched c.in_ok-next.next.writes.items = c.mark.ensures ∙ ap (marked c.turns.touched) c.deref.ensures.value in
-    let counted : c.count.result ≡ flags_set (marked c.turns.touched c.in_ok-next.next.writes.items) = c.count.ensures ∙ ap flags_set touched in
-    let fits : nat_lt c.args.budget (flags_set (marked c.turns.touched c.in_ok-next.next.writes.items)) ≡ false =
+    let flags = next_flags p stim limits c.args.budget words c.turns.touched c.turns.header c.turns.text k c.turn.new.into run turn in
+    let touched : c.mark.new.self ≡ marked c.turns.touched c.turn.new.into.writes.items = c.mark.ensures ∙ ap (marked c.turns.touched) c.deref.ensures.value in
+    let counted : c.count.result ≡ flags_set (marked c.turns.touched c.turn.new.into.writes.items) = c.count.ensures ∙ ap flags_set touched in
+    let fits : nat_lt c.args.budget (flags_set (marked c.turns.touched c.turn.new.into.writes.items)) ≡ false =
     ap (nat_lt c.args.budget) (sym counted) ∙ le-ltb c.args.budget c.count.result c.if-count-budget.false in
-    let next = advance p stim limits c.args.budget words c.turns.touched c.turns.header c.turns.text k c.in_ok-next.next run turn going fits in
-    let words_next : c.perform.new.words.items ≡ written words c.in_ok-next.next.writes.items = c.perform.ensures ∙ ap (written words) c.deref-in-turns.ensures.value in
-    let text_next : c.push_all.new.self ≡ c.turns.text ++ c.in_ok-next.next.text = c.in_ok-push_all.ensures.ok ∙ ap (λ t. c.turns.text ++ t) c.bytes.ensures in
-    let turns_next : c.in_ok-next.next.header.turns ≡ suc k = next.counted in
+    let next = advance p stim limits c.args.budget words c.turns.touched c.turns.header c.turns.text k c.turn.new.into run turn going fits in
+    let words_next : c.perform.new.words.items ≡ written words c.turn.new.into.writes.items = c.perform.ensures ∙ ap (written words) c.deref-in-turns.ensures.value in
+    let text_next : c.push_all.new.self ≡ c.turns.text ++ c.turn.new.into.text = c.in_ok-push_all.ensures.ok ∙ ap (λ t. c.turns.text ++ t) c.bytes.ensures in
+    let turns_next : c.turn.new.into.header.turns ≡ suc k = next.counted in
     let limit = before_limit m stim limits now going_now in
     let before = ap (λ h. h.turns) run.header_is in
     record {
       running =
-          subst (λ (ws : List ℕ). IsRunning p stim limits c.args.budget ws c.mark.new.self c.in_ok-next.next.header c.push_all.new.self c.in_ok-next.next.header.turns) (sym words_next)
-          (subst (λ (fs : List Bool). IsRunning p stim limits c.args.budget (written words c.in_ok-next.next.writes.items) fs c.in_ok-next.next.header c.push_all.new.self c.in_ok-next.next.header.turns) (sym touched)
-          (subst (λ (ts : List ℕ). IsRunning p stim limits c.args.budget (written words c.in_ok-next.next.writes.items) (marked c.turns.touched c.in_ok-next.next.writes.items) c.in_ok-next.next.header ts c.in_ok-next.next.header.turns) (sym text_next)
-          (subst (λ (n : ℕ). IsRunning p stim limits c.args.budget (written words c.in_ok-next.next.writes.items) (marked c.turns.touched c.in_ok-next.next.writes.items) c.in_ok-next.next.header (c.turns.text ++ c.in_ok-next.next.text) n) (sym turns_next) next)));
+          subst (λ (ws : List ℕ). IsRunning p stim limits c.args.budget ws c.mark.new.self c.turn.new.into.header c.push_all.new.self c.turn.new.into.header.turns) (sym words_next)
+          (subst (λ (fs : List Bool). IsRunning p stim limits c.args.budget (written words c.turn.new.into.writes.items) fs c.turn.new.into.header c.push_all.new.self c.turn.new.into.header.turns) (sym touched)
+          (subst (λ (ts : List ℕ). IsRunning p stim limits c.args.budget (written words c.turn.new.into.writes.items) (marked c.turns.touched c.turn.new.into.writes.items) c.turn.new.into.header ts c.turn.new.into.header.turns) (sym text_next)
+          (subst (λ (n : ℕ). IsRunning p stim limits c.args.budget (written words c.turn.new.into.writes.items) (marked c.turns.touched c.turn.new.into.writes.items) c.turn.new.into.header (c.turns.text ++ c.turn.new.into.text) n) (sym turns_next) next)));
       past = refl;
       most = omega (arith, turns_next, limit, before, run.counted);
       parts = ap (λ s. s.parts) c.tick-in-turns.ensures ∙ c.turns.invariant.parts;

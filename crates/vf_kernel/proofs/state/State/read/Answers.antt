@@ -1,6 +1,6 @@
 use Rattle.std.proofs.Common.{ℕ, ◌<◌, List, length, slice_index, ap, arith, subst}
 use Rattle.vf_design.specs.Program.{Program}
-use Rattle.vf_kernel.specs.State.{HoldsState}
+use Rattle.vf_design.specs.Turn.{HoldsState}
 use Rattle.vf_kernel.proofs.state.State.read.Goals as goal
 
 -- the place that the words hold is in the code
