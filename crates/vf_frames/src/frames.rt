@@ -5,7 +5,11 @@ ghost use Rattle.vf_frames.specs.Numbers.{has, rises};
 ghost use Rattle.vf_frames.specs.Holders.{Accounts, Keeps, AllHeld, SamePool, count};
 ghost use Rattle.vf_frames.specs.Calls.{Claimed, Missed, Held, Released, Looked, Opened, Joined};
 
-use vf_base::{FrameNo, Memory};
+use vf_base::Memory;
+
+/// The number of a frame of a pool, from 0 on.
+#[derive(Clone, Copy, Debug, PartialEq, Eq)]
+pub struct FrameNo(pub u32);
 
 /// A pool of page frames that holders share. The count of a frame is the number of holders that have
 /// it. Each holder has a token, which shows its list of frames, its misses, its parts of the pool, the

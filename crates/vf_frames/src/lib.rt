@@ -13,6 +13,6 @@ mod plain;
 mod set;
 mod tally;
 
-pub use frames::Frames;
+pub use frames::{FrameNo, Frames};
 pub use holder::{Holder, Name, Note};
 pub use plain::{PlainPool, PlainToken};

@@ -1,10 +1,10 @@
 ghost use Rattle.std.specs.Prelude.{◌≡◌, ◌≤◌, [], ◌∷◌, IfOk, length};
 
-use crate::frames::Frames;
+use crate::frames::{FrameNo, Frames};
 use crate::set::FrameSet;
 use crate::tally::Tally;
 use std::alloc::Global;
-use vf_base::{FrameNo, Memory};
+use vf_base::Memory;
 
 /// The token of a holder over a `PlainPool`: one bit for each frame.
 #[derive(Debug, Drop)]

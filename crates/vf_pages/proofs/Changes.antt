@@ -2,6 +2,7 @@
 use Rattle.std.proofs.Common.{◌≡◌, ◌≢◌, ℕ, ◌+◌, ◌/◌, ◌<◌, ◌≤◌, true, List, [], ◌∷◌, length, map, refl, sym, ap, ◌∙◌, arith, eq-eqb, ne_eqb, subst, ⊎_elim}
 use Rattle.std.specs.Prelude.{Option}
 use Rattle.std.proofs.lemmas.Bool.{cases_eq}
+use Rattle.vf_base.specs.declared.write.Write.{Write}
 use Rattle.vf_frames.specs.declared.holder.Holder.{Holder}
 use Rattle.vf_frames.specs.Numbers.{rises}
 use Rattle.vf_frames.specs.Holders.{Accounts, Keeps}
@@ -16,7 +17,7 @@ use Rattle.vf_pages.specs.Needs.{new_pages}
 use Rattle.vf_pages.specs.Gathered.{Short, ShortNotes, Unmade, OnLack}
 use Rattle.vf_pages.specs.Calls.{IsShort, ShortAmong, IsUnmade, OnRefusal}
 use Rattle.vf_pages.proofs.Entries.{rises-parts, rises-from, rises-less}
-use Rattle.vf_pages.proofs.Notes.{notes-then, wins-append, any-left, rest-then}
+use Rattle.vf_frames.proofs.CallerLemmas.{notes-then, wins-append, any-left, rest-then}
 use Rattle.vf_pages.proofs.Counting.{beyond-budget}
 
 -- the pages that writes fall on rise
@@ -35,13 +36,13 @@ with_page-rises p limit (q ∷ qs) r h =
     ahead : (p q : ℕ) (qs : List ℕ) → p ≢ q → with_page p (q ∷ qs) ≡ p ∷ (q ∷ qs)
     ahead p q qs ne = rw (ne_eqb p q ne) refl
 
-pub written_pages-rise : (low limit : ℕ) (ws : List (ℕ × ℕ)) → rises low limit (map address ws) ≡ true → rises (low / 64) (limit / 64 + 1) (written_pages ws) ≡ true
+pub written_pages-rise : (low limit : ℕ) (ws : List Write) → rises low limit (map address ws) ≡ true → rises (low / 64) (limit / 64 + 1) (written_pages ws) ≡ true
 written_pages-rise low limit [] r = refl
 written_pages-rise low limit (w ∷ ws) r =
-    let parts = rises-parts low limit w.0 (map address ws) r in
-    let later = rises-less (w.0 / 64) ((w.0 + 1) / 64) (limit / 64 + 1) (written_pages ws) (omega arith) (written_pages-rise (w.0 + 1) limit ws parts.2) in
-    rises-less (low / 64) (w.0 / 64) (limit / 64 + 1) (with_page (w.0 / 64) (written_pages ws)) (omega (arith, parts.0))
-    (with_page-rises (w.0 / 64) (limit / 64 + 1) (written_pages ws) later (omega (arith, parts.1)))
+    let parts = rises-parts low limit w.at (map address ws) r in
+    let later = rises-less (w.at / 64) ((w.at + 1) / 64) (limit / 64 + 1) (written_pages ws) (omega arith) (written_pages-rise (w.at + 1) limit ws parts.2) in
+    rises-less (low / 64) (w.at / 64) (limit / 64 + 1) (with_page (w.at / 64) (written_pages ws)) (omega (arith, parts.0))
+    (with_page-rises (w.at / 64) (limit / 64 + 1) (written_pages ws) later (omega (arith, parts.1)))
 
 pub owns-covers : (pages fresh : List Page) (frames : List ℕ) → Owns pages fresh frames → Covers fresh frames
 owns-covers pages fresh frames owns f = omega (arith, owns f)
@@ -49,7 +50,7 @@ owns-covers pages fresh frames owns f = omega (arith, owns f)
 pub gives-held : (pages fresh : List Page) (frames left : List ℕ) → Owns pages fresh frames → Gives fresh frames left → IsHeld pages left
 gives-held pages fresh frames left owns gives f = omega (arith, owns f, gives f)
 
-module _ (pages : List Page) (ws : List (ℕ × ℕ)) (a0 : Option (List ℕ)) (start : Holder) (a : Option (List ℕ)) (now : Holder) (fresh : List Page) where
+module _ (pages : List Page) (ws : List Write) (a0 : Option (List ℕ)) (start : Holder) (a : Option (List ℕ)) (now : Holder) (fresh : List Page) where
   pub lack-owns : (lack : Lack) → OnLack lack (Short pages ws a0 start a now fresh) (Unmade pages a0 start a now fresh) → Owns pages fresh now.frames
   lack-owns Frame s = s.owns
   lack-owns Memory u = u.owns

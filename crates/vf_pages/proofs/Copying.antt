@@ -3,6 +3,7 @@ use Rattle.std.proofs.Common.{◌≡◌, ◌≢◌, ℕ, ◌+◌, ◌/◌, ◌�
 use Rattle.std.specs.Prelude.{Some, None, slice_get}
 use Rattle.std.proofs.lemmas.Bool.{cases_eq, cases_lt, cases_order}
 use Rattle.std.proofs.lemmas.Option.{same_Some, none-some}
+use Rattle.vf_base.specs.declared.write.Write.{Write}
 use Rattle.vf_frames.specs.Numbers.{rises}
 use Rattle.vf_pages.specs.Pages.{Page, page_number, pages_in, entry, or_entry, IsSorted, page_limit}
 use Rattle.vf_pages.specs.Writes.{touches, after, own, beyond, AreWrites}
@@ -54,7 +55,7 @@ pub last-there : (pages copies left : List Page) (e : Page) → copies ≡ left 
 last-there pages copies left e last there none = (none-last e.page left e (ap (entry e.page) (sym last) ∙ there e.page none)).1 refl
 
 -- the copy of page p takes its writes on
-put-in_place : (p : ℕ) (ws : List (ℕ × ℕ)) (fresh : List Page) (s : Page) (low limit : ℕ) (es : List Page) → rises low limit (pages_in es) ≡ true → entry p es ≡ Some s
+put-in_place : (p : ℕ) (ws : List Write) (fresh : List Page) (s : Page) (low limit : ℕ) (es : List Page) → rises low limit (pages_in es) ≡ true → entry p es ≡ Some s
     → put (in_place ws fresh s) (map (in_place (beyond p ws) fresh) es) ≡ map (in_place ws fresh) es
 put-in_place p ws fresh s low limit [] r h = absurd (none-some s h)
 put-in_place p ws fresh s low limit (x ∷ xs) r h =
@@ -75,11 +76,11 @@ put-in_place p ws fresh s low limit (x ∷ xs) r h =
     (cases_eq p x.page)
 
 -- what is left to write once page p has its copy, or needs none
-pub copied-more : (count : ℕ) (ws : List (ℕ × ℕ)) (f : ℕ × ℕ) (pages fresh copies copies' : List Page) (own' more : List (ℕ × ℕ))
-    → AreWrites count ws → Some f ≡ slice_get ws 0 → IsSorted pages → own' ≡ own (f.0 / 64) ws → more ≡ beyond (f.0 / 64) ws → Copied (f.0 / 64) own' pages fresh copies copies'
+pub copied-more : (count : ℕ) (ws : List Write) (f : Write) (pages fresh copies copies' : List Page) (own' more : List Write)
+    → AreWrites count ws → Some f ≡ slice_get ws 0 → IsSorted pages → own' ≡ own (f.at / 64) ws → more ≡ beyond (f.at / 64) ws → Copied (f.at / 64) own' pages fresh copies copies'
     → puts copies' (map (in_place more fresh) pages) ≡ puts copies (map (in_place ws fresh) pages)
 copied-more count ws f pages fresh copies copies' own' more r h sorted is left copied =
-    let p : ℕ = f.0 / 64 in
+    let p : ℕ = f.at / 64 in
     ⊎_elim
     (λ no. ap₂ (λ cs xs. puts cs (map (in_place xs fresh) pages)) no.same left ∙ ap (puts copies) (in_place-skip p ws fresh pages no.why))
     (λ a.
@@ -94,7 +95,7 @@ copied-more count ws f pages fresh copies copies' own' more r h sorted is left c
     copied
 
 -- only held pages have copies
-pub copied-there : (p : ℕ) (own' : List (ℕ × ℕ)) (pages fresh copies copies' : List Page) → Copied p own' pages fresh copies copies' → (q : ℕ) → entry q pages ≡ None → entry q copies ≡ None → entry q copies' ≡ None
+pub copied-there : (p : ℕ) (own' : List Write) (pages fresh copies copies' : List Page) → Copied p own' pages fresh copies copies' → (q : ℕ) → entry q pages ≡ None → entry q copies ≡ None → entry q copies' ≡ None
 copied-there p own' pages fresh copies copies' copied q none before =
     ⊎_elim
     (λ no. ap (entry q) no.same ∙ before)

@@ -1,13 +1,13 @@
 -- How many frames are free, held and needed.
 use Rattle.std.proofs.Common.{◌≡◌, ◌≢◌, ℕ, zero, suc, ◌+◌, ◌<◌, ◌≤◌, Bool, true, false, cond, ◌||◌, ◌==◌, nat_le, List, [], ◌∷◌, length, refl, sym, ap, ◌∙◌, arith, ne_eqb, eq-eqb, le-leb, ⊎_elim}
 use Rattle.std.specs.Prelude.{Option, Some, None}
-use Rattle.std.proofs.lemmas.Bool.{cases_eq, cond_both}
+use Rattle.std.proofs.lemmas.Bool.{cases_eq, cond_both, eqb-true}
 use Rattle.vf_frames.specs.declared.holder.Holder.{Holder}
 use Rattle.vf_frames.specs.Numbers.{has, rises}
 use Rattle.vf_frames.specs.Holders.{total, count, one_if_has}
 use Rattle.vf_pages.specs.Pages.{Page, frames_in, entry, occurs, IsHeld}
 use Rattle.vf_pages.specs.Needs.{need, needs_frame, is_new, new_pages, free_frames, frames_held}
-use Rattle.vf_pages.proofs.Entries.{rises-parts, entry-here, entry-other}
+use Rattle.vf_pages.proofs.Entries.{rises-parts, rises-has, entry-here, entry-other}
 use Rattle.vf_pages.proofs.Frames.{has-from}
 
 -- a sum over the numbers below n
@@ -258,4 +258,36 @@ held-within n es frames held within =
       below-occurs n (frames_in es) (λ f some. within f (has-from f (has f frames) (omega (arith, held f)))),
       below-le n (λ f. occurs f (frames_in es)) (λ f. cond (has f frames) 1 0) (λ f _. omega (arith, held f)),
       below-ones n (λ f. has f frames),
+    )
+
+apart-add : (a b : Bool) → (a ≡ true → b ≡ true → ⊥) → cond {A = ℕ} a 1 0 + cond b 1 0 ≤ cond (a || b) 1 0
+apart-add true true h = absurd (h refl refl)
+apart-add true false h = omega arith
+apart-add false true h = omega arith
+apart-add false false h = omega arith
+
+-- rising numbers below n are as many as the list is long
+pub below-rises : (n low : ℕ) (xs : List ℕ) → rises low n xs ≡ true → below n (λ f. cond (has f xs) 1 0) ≡ length xs
+below-rises n low [] r = below-none n
+below-rises n low (x ∷ xs) r =
+    let parts = rises-parts low n x xs r in
+    omega (
+      arith,
+      below-le n (λ f. cond (has f (x ∷ xs)) 1 0) (λ f. cond (f == x) 1 0 + cond (has f xs) 1 0) (λ f _. has-le f x xs),
+      below-le n (λ f. cond (f == x) 1 0 + cond (has f xs) 1 0) (λ f. cond (has f (x ∷ xs)) 1 0)
+          (λ f _. apart-add (f == x) (has f xs) (λ same there. let later = rises-has (x + 1) n f xs parts.2 there in absurd (omega (arith, later.0, eqb-true f x same)))),
+      below-add n (λ f. cond (f == x) 1 0) (λ f. cond (has f xs) 1 0),
+      below-once n x 1 parts.1,
+      below-rises n (x + 1) xs parts.2,
+    )
+
+-- a holder has as many frames as pages
+pub held-exactly : (n : ℕ) (es : List Page) (frames : List ℕ) → IsHeld es frames → rises 0 n frames ≡ true → length frames ≡ length (frames_in es)
+held-exactly n es frames held r =
+    omega (
+      arith,
+      below-occurs n (frames_in es) (λ f some. (rises-has 0 n f frames r (has-from f (has f frames) (omega (arith, held f)))).1),
+      below-le n (λ f. occurs f (frames_in es)) (λ f. cond (has f frames) 1 0) (λ f _. omega (arith, held f)),
+      below-le n (λ f. cond (has f frames) 1 0) (λ f. occurs f (frames_in es)) (λ f _. omega (arith, held f)),
+      below-rises n 0 frames r,
     )

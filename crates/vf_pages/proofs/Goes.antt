@@ -1,6 +1,7 @@
 -- One page's writes, in the terms of the code.
 use Rattle.std.proofs.Common.{◌≡◌, ◌≢◌, ℕ, ◌<◌, ◌≤◌, true, false, List, [], ◌∷◌, length, refl, sym, ap, ◌∙◌, arith, subst, IsTrue, inl, inr, ◌↔◌}
 use Rattle.std.specs.Prelude.{Option, Some, None, Result, Ok, Err, OnErr, IfErr}
+use Rattle.vf_base.specs.declared.write.Write.{Write}
 use Rattle.vf_frames.specs.declared.holder.Holder.{Holder}
 use Rattle.vf_frames.specs.Numbers.{has}
 use Rattle.vf_frames.specs.Holders.{count, Accounts, Keeps}
@@ -10,7 +11,7 @@ use Rattle.vf_pages.specs.declared.gather.Lack.TheVariants.{Frame, Memory}
 use Rattle.vf_pages.specs.Pages.{Page, entry, zero_page, old_words, Owns, page_limit}
 use Rattle.vf_pages.specs.Writes.{after, AllOn}
 use Rattle.vf_pages.specs.Gathered.{Added, NoFrame, OnLack, Unmade, Goes, Ends}
-use Rattle.vf_pages.proofs.Notes.{keeps-then}
+use Rattle.vf_frames.proofs.CallerLemmas.{keeps-then}
 use Rattle.vf_pages.proofs.Frames.{occurs-entry, has-from, one_if-has}
 use Rattle.vf_pages.proofs.Steps.{step-alone, step-look, step-add, step-short, step-unmade}
 
@@ -33,14 +34,14 @@ shared-from f a now there alone others c =
     false_true h = cc
 
 module _ (zero : List ℕ) (pages : List Page) (p : ℕ) (a : Option (List ℕ)) (now : Holder) (fresh : List Page) where
-  pub goes-alone : (own : List (ℕ × ℕ)) (o : Page) (a' : Option (List ℕ)) (now' : Holder) → 0 < length own → AllOn p own → entry p pages ≡ Some o
+  pub goes-alone : (own : List Write) (o : Page) (a' : Option (List ℕ)) (now' : Holder) → 0 < length own → AllOn p own → entry p pages ≡ Some o
       → Looked o.frame true now now' → Keeps a (now ∷ []) a' (now' ∷ []) → ((others : List Holder) → Accounts a (now ∷ others) → IsTrue true ↔ (count o.frame (now ∷ others) ≡ 1)) → has o.frame now.frames ≡ true
       → Goes zero pages p own a now fresh a' now' fresh
   goes-alone [] o a' now' some on held look keeps alone there = absurd (omega arith)
   goes-alone (w ∷ ws) o a' now' some on held look keeps alone there = λ done a0 before first g.
       step-alone zero pages done a0 before a now fresh p w ws o a' now' on first held look keeps (λ others c. (alone others c).0 refl) there g
 
-  pub goes-new : (own : List (ℕ × ℕ)) (words : List ℕ) (a' : Option (List ℕ)) (now' : Holder) (fresh' : List Page) → 0 < length own → AllOn p own → p < page_limit → entry p pages ≡ None
+  pub goes-new : (own : List Write) (words : List ℕ) (a' : Option (List ℕ)) (now' : Holder) (fresh' : List Page) → 0 < length own → AllOn p own → p < page_limit → entry p pages ≡ None
       → words ≡ after own p (zero_page zero p) → Added p words a now now' fresh fresh' → Keeps a (now ∷ []) a' (now' ∷ [])
       → Goes zero pages p own a now fresh a' now' fresh'
   goes-new [] words a' now' fresh' some on below none are added keeps = absurd (omega arith)
@@ -56,7 +57,7 @@ module _ (zero : List ℕ) (pages : List Page) (p : ℕ) (a : Option (List ℕ))
         notes = u.notes;
       })
 
-  pub ends-new : (own : List (ℕ × ℕ)) (a' : Option (List ℕ)) (now' : Holder) (fresh' : List Page) (lack : Lack) → 0 < length own → AllOn p own → entry p pages ≡ None
+  pub ends-new : (own : List Write) (a' : Option (List ℕ)) (now' : Holder) (fresh' : List Page) (lack : Lack) → 0 < length own → AllOn p own → entry p pages ≡ None
       → fresh' ≡ fresh → OnLack lack (NoFrame a now now') (now' ≡ now) → Keeps a (now ∷ []) a' (now' ∷ [])
       → Ends zero pages p own a now fresh a' now' fresh' lack
   ends-new [] a' now' fresh' lack some on none same why keeps = absurd (omega arith)
@@ -65,7 +66,7 @@ module _ (zero : List ℕ) (pages : List Page) (p : ℕ) (a : Option (List ℕ))
   ends-new (w ∷ ws) a' now' fresh' Memory some on none same why keeps = λ done a0 before first g.
       unmade-then a0 before a' now' fresh' (step-unmade zero pages done a0 before a now fresh fresh' same g) keeps why
 
-  pub goes-shared : (own : List (ℕ × ℕ)) (o : Page) (words : List ℕ) (a1 : Option (List ℕ)) (now1 : Holder) (a' : Option (List ℕ)) (now' : Holder) (fresh' : List Page)
+  pub goes-shared : (own : List Write) (o : Page) (words : List ℕ) (a1 : Option (List ℕ)) (now1 : Holder) (a' : Option (List ℕ)) (now' : Holder) (fresh' : List Page)
       → 0 < length own → AllOn p own → p < page_limit → entry p pages ≡ Some o
       → Looked o.frame false now now1 → Keeps a (now ∷ []) a1 (now1 ∷ []) → ((others : List Holder) → Accounts a (now ∷ others) → IsTrue false ↔ (count o.frame (now ∷ others) ≡ 1)) → has o.frame now.frames ≡ true
       → words ≡ after own p o.words → Added p words a1 now1 now' fresh fresh' → Keeps a1 (now1 ∷ []) a' (now' ∷ [])
@@ -77,7 +78,7 @@ module _ (zero : List ℕ) (pages : List Page) (p : ℕ) (a : Option (List ℕ))
       (are ∙ ap (λ e. after (w ∷ ws) p (old_words zero p e)) (sym held)) added keeps
       (step-look zero pages done a0 before a now fresh o.frame a1 now1 look keeps1 g)
 
-  pub ends-shared : (own : List (ℕ × ℕ)) (o : Page) (a1 : Option (List ℕ)) (now1 : Holder) (a' : Option (List ℕ)) (now' : Holder) (fresh' : List Page) (lack : Lack)
+  pub ends-shared : (own : List Write) (o : Page) (a1 : Option (List ℕ)) (now1 : Holder) (a' : Option (List ℕ)) (now' : Holder) (fresh' : List Page) (lack : Lack)
       → 0 < length own → AllOn p own → entry p pages ≡ Some o
       → Looked o.frame false now now1 → Keeps a (now ∷ []) a1 (now1 ∷ []) → ((others : List Holder) → Accounts a (now ∷ others) → IsTrue false ↔ (count o.frame (now ∷ others) ≡ 1)) → has o.frame now.frames ≡ true
       → fresh' ≡ fresh → OnLack lack (NoFrame a1 now1 now') (now' ≡ now1) → Keeps a1 (now1 ∷ []) a' (now' ∷ [])

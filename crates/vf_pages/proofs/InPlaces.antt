@@ -15,26 +15,27 @@ use Rattle.vf_pages.proofs.Groups.{own-append-beyond, AllOn-own, touches-AllOn}
 use Rattle.vf_pages.proofs.Progress.{first-beyond, first-touched}
 use Rattle.vf_pages.proofs.Lookups.{number-at, length-pages}
 use Rattle.std.specs.Arc.{arc_value}
+use Rattle.vf_base.specs.declared.write.Write.{Write}
 
-pub in_place-off : (ws : List (ℕ × ℕ)) (fresh : List Page) (e : Page) → touches e.page ws ≡ false → in_place ws fresh e ≡ e
+pub in_place-off : (ws : List Write) (fresh : List Page) (e : Page) → touches e.page ws ≡ false → in_place ws fresh e ≡ e
 in_place-off ws fresh e h = rw h refl
 
-pub in_place-fresh : (ws : List (ℕ × ℕ)) (fresh : List Page) (e o : Page) → entry e.page fresh ≡ Some o → in_place ws fresh e ≡ e
+pub in_place-fresh : (ws : List Write) (fresh : List Page) (e o : Page) → entry e.page fresh ≡ Some o → in_place ws fresh e ≡ e
 in_place-fresh ws fresh e o h = over (touches e.page ws) (is_none (entry e.page fresh)) (record { page = e.page; frame = e.frame; words = after ws e.page e.words }) e (ap is_none h)
   where
     over : (a b : Bool) (x y : Page) → b ≡ false → cond (a && b) x y ≡ y
     over true b x y h = rw h refl
     over false b x y h = refl
 
-pub in_place-on : (ws : List (ℕ × ℕ)) (fresh : List Page) (e : Page) → touches e.page ws ≡ true → entry e.page fresh ≡ None → in_place ws fresh e ≡ record { page = e.page; frame = e.frame; words = after ws e.page e.words }
+pub in_place-on : (ws : List Write) (fresh : List Page) (e : Page) → touches e.page ws ≡ true → entry e.page fresh ≡ None → in_place ws fresh e ≡ record { page = e.page; frame = e.frame; words = after ws e.page e.words }
 in_place-on ws fresh e h k = rw (h, k) refl
 
-in_place-same : (xs ys : List (ℕ × ℕ)) (fresh : List Page) (e : Page) → touches e.page xs ≡ touches e.page ys → after xs e.page e.words ≡ after ys e.page e.words → in_place xs fresh e ≡ in_place ys fresh e
+in_place-same : (xs ys : List Write) (fresh : List Page) (e : Page) → touches e.page xs ≡ touches e.page ys → after xs e.page e.words ≡ after ys e.page e.words → in_place xs fresh e ≡ in_place ys fresh e
 in_place-same xs ys fresh e h k =
     ap₂ (λ b (ws : List ℕ). cond (b && is_none (entry e.page fresh)) (record { page = e.page; frame = e.frame; words = ws }) e) h k
 
 -- pages other than p see the writes behind those of page p alone
-touches-beyond : (p q : ℕ) (ws : List (ℕ × ℕ)) → q ≢ p → touches q ws ≡ touches q (beyond p ws)
+touches-beyond : (p q : ℕ) (ws : List Write) → q ≢ p → touches q ws ≡ touches q (beyond p ws)
 touches-beyond p q ws ne =
     ap (touches q) (sym (own-append-beyond p ws)) ∙ touches-append q (own p ws) (beyond p ws)
     ∙ skip (touches q (own p ws)) (touches q (beyond p ws)) (false_from_ne_true (touches q (own p ws)) (λ t. ne (touches-AllOn p q (own p ws) (AllOn-own p ws) t)))
@@ -42,20 +43,20 @@ touches-beyond p q ws ne =
     skip : (a b : Bool) → a ≡ false → (a || b) ≡ b
     skip a b h = rw h refl
 
-written-beyond : (p a old : ℕ) (ws : List (ℕ × ℕ)) → a / 64 ≢ p → written ws a old ≡ written (beyond p ws) a old
+written-beyond : (p a old : ℕ) (ws : List Write) → a / 64 ≢ p → written ws a old ≡ written (beyond p ws) a old
 written-beyond p a old ws ne =
     ap (λ xs. written xs a old) (sym (own-append-beyond p ws)) ∙ written-append (own p ws) (beyond p ws) a old
     ∙ ap (written (beyond p ws) a) (written-untouched (own p ws) a old (false_from_ne_true (touches (a / 64) (own p ws)) (λ t. ne (touches-AllOn p (a / 64) (own p ws) (AllOn-own p ws) t))))
 
-pub in_place-beyond : (p : ℕ) (ws : List (ℕ × ℕ)) (fresh : List Page) (e : Page) → e.page ≢ p → in_place ws fresh e ≡ in_place (beyond p ws) fresh e
+pub in_place-beyond : (p : ℕ) (ws : List Write) (fresh : List Page) (e : Page) → e.page ≢ p → in_place ws fresh e ≡ in_place (beyond p ws) fresh e
 in_place-beyond p ws fresh e ne =
     in_place-same ws (beyond p ws) fresh e (touches-beyond p e.page ws ne)
     (after-same ws (beyond p ws) e.page e.words (λ a old at. written-beyond p a old ws (λ same. ne (sym at ∙ same))))
 
 -- page p sees the writes at the front alone
-pub after-own : (low limit : ℕ) (ws : List (ℕ × ℕ)) (f : ℕ × ℕ) (words : List ℕ) → rises low limit (map address ws) ≡ true → Some f ≡ slice_get ws 0 → after ws (f.0 / 64) words ≡ after (own (f.0 / 64) ws) (f.0 / 64) words
+pub after-own : (low limit : ℕ) (ws : List Write) (f : Write) (words : List ℕ) → rises low limit (map address ws) ≡ true → Some f ≡ slice_get ws 0 → after ws (f.at / 64) words ≡ after (own (f.at / 64) ws) (f.at / 64) words
 after-own low limit ws f words r h =
-    let p : ℕ = f.0 / 64 in
+    let p : ℕ = f.at / 64 in
     after-same ws (own p ws) p words (λ a old at.
     ap (λ xs. written xs a old) (sym (own-append-beyond p ws)) ∙ written-append (own p ws) (beyond p ws) a old
     ∙ written-untouched (beyond p ws) a (written (own p ws) a old) (false_from_ne_true (touches (a / 64) (beyond p ws)) (λ t. absurd (omega (arith, first-beyond low limit ws f r h (a / 64) t, at)))))
@@ -80,7 +81,7 @@ map-all f g [] h = refl
 map-all f g (x ∷ xs) h = ap₂ (λ y ys. y ∷ ys) (h x) (map-all f g xs h)
 
 -- a page that is not held, or that has a fresh one, is passed over
-pub in_place-skip : (p : ℕ) (ws : List (ℕ × ℕ)) (fresh es : List Page) → (entry p es ≡ None) ⊎ (entry p fresh ≢ None) → map (in_place (beyond p ws) fresh) es ≡ map (in_place ws fresh) es
+pub in_place-skip : (p : ℕ) (ws : List Write) (fresh es : List Page) → (entry p es ≡ None) ⊎ (entry p fresh ≢ None) → map (in_place (beyond p ws) fresh) es ≡ map (in_place ws fresh) es
 in_place-skip p ws fresh es why =
     ⊎_elim
     (λ none. map-other (in_place (beyond p ws) fresh) (in_place ws fresh) p es none (λ e ne. sym (in_place-beyond p ws fresh e ne)))
@@ -119,10 +120,10 @@ rises-later low limit (x ∷ xs) s later r =
     rises-later (x.page + 1) limit xs s later (rises-parts low limit x.page (pages_in (xs ++ s ∷ later)) r).2
 
 -- one page written where it is, and the pages behind it
-pub in_place-step : (words : ℕ) (ws : List (ℕ × ℕ)) (f : ℕ × ℕ) (fresh front : List Page) (s : Page) (later : List Page) → AreWrites words ws → Some f ≡ slice_get ws 0 → s.page ≡ f.0 / 64 → entry (f.0 / 64) fresh ≡ None → IsSorted (front ++ s ∷ later)
-    → map (in_place ws fresh) (front ++ s ∷ later) ≡ front ++ record { page = s.page; frame = s.frame; words = after (own (f.0 / 64) ws) (f.0 / 64) s.words } ∷ map (in_place (beyond (f.0 / 64) ws) fresh) later
+pub in_place-step : (words : ℕ) (ws : List Write) (f : Write) (fresh front : List Page) (s : Page) (later : List Page) → AreWrites words ws → Some f ≡ slice_get ws 0 → s.page ≡ f.at / 64 → entry (f.at / 64) fresh ≡ None → IsSorted (front ++ s ∷ later)
+    → map (in_place ws fresh) (front ++ s ∷ later) ≡ front ++ record { page = s.page; frame = s.frame; words = after (own (f.at / 64) ws) (f.at / 64) s.words } ∷ map (in_place (beyond (f.at / 64) ws) fresh) later
 in_place-step words ws f fresh front s later r h at none sorted =
-    let p : ℕ = f.0 / 64 in
+    let p : ℕ = f.at / 64 in
     let split = map-split (in_place ws fresh) (in_place (beyond p ws) fresh) 0 page_limit front s later sorted
     (λ e lt. in_place-off ws fresh e (false_from_ne_true (touches e.page ws) (λ t. ⊎_elim
     (λ o. absurd (omega (arith, touches-AllOn p e.page (own p ws) (AllOn-own p ws) o, at)))
@@ -153,13 +154,13 @@ sorted-cut hs front behind later slot cut first sorted =
     (ap (λ es. rises 0 page_limit (pages_in es)) (sym (pages-cut hs front behind later slot cut first)) ∙ sorted)
 
 -- one page written where it is, in memory
-pub in_place-done : (count : ℕ) (ws : List (ℕ × ℕ)) (f : ℕ × ℕ) (fresh : List Page) (hs front behind later : List Held) (slot : Held) (i : ℕ) (new : List ℕ) (later' : List Page)
+pub in_place-done : (count : ℕ) (ws : List Write) (f : Write) (fresh : List Page) (hs front behind later : List Held) (slot : Held) (i : ℕ) (new : List ℕ) (later' : List Page)
     → AreWrites count ws → Some f ≡ slice_get ws 0 → IsSorted (pages_of hs) → hs ≡ front ++ behind → behind ≡ slot ∷ later → length front ≡ i
-    → IsPlace (f.0 / 64) (pages_of hs) i → entry (f.0 / 64) fresh ≡ None
-    → new ≡ after (own (f.0 / 64) ws) (f.0 / 64) (arc_value slot.content) → later' ≡ map (in_place (beyond (f.0 / 64) ws) fresh) (pages_of later)
+    → IsPlace (f.at / 64) (pages_of hs) i → entry (f.at / 64) fresh ≡ None
+    → new ≡ after (own (f.at / 64) ws) (f.at / 64) (arc_value slot.content) → later' ≡ map (in_place (beyond (f.at / 64) ws) fresh) (pages_of later)
     → pages_of front ++ record { page = slot.page.0; frame = slot.frame.0; words = new } ∷ later' ≡ map (in_place ws fresh) (pages_of hs)
 in_place-done count ws f fresh hs front behind later slot i new later' r h sorted cut first len place none content rest =
-    let p : ℕ = f.0 / 64 in
+    let p : ℕ = f.at / 64 in
     let is = pages-cut hs front behind later slot cut first in
     let at = number-cut (pages_of front) (page_of slot) (pages_of later) i p (length-pages front ∙ len) (subst (λ es. IsPlace p es i) is place) in
     let step = in_place-step count ws f fresh (pages_of front) (page_of slot) (pages_of later) r h at none (ap (λ es. rises 0 page_limit (pages_in es)) (sym is) ∙ sorted) in

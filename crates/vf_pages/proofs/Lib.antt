@@ -2,7 +2,6 @@ pub mod Entries
 pub mod Puts
 pub mod Words
 pub mod Groups
-pub mod Notes
 pub mod Frames
 pub mod Steps
 pub mod Progress

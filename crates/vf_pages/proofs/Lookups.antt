@@ -4,6 +4,7 @@ use Rattle.std.specs.Prelude.{Option, Some, None}
 use Rattle.std.specs.List.{insert}
 use Rattle.std.proofs.lemmas.Bool.{cases_lt}
 use Rattle.std.proofs.lemmas.List.{get_or-map, map-append, map-set, take-map, drop-map, length-map, drop_more}
+use Rattle.vf_base.specs.declared.write.Write.{Write}
 use Rattle.vf_frames.specs.Numbers.{rises}
 use Rattle.vf_pages.specs.declared.held.Held.{Held}
 use Rattle.vf_pages.specs.Pages.{Page, page_number, pages_in, entry, IsSorted, IsPlace, IsGap, page_limit}
@@ -69,7 +70,7 @@ entry-gap ps i p gap =
     (cases_lt k i))
 
 -- where the writes of page p stop
-pub own-stop : (p i : ℕ) (ws : List (ℕ × ℕ)) (d : ℕ × ℕ) → i < length ws → (get_or ws i d).0 / 64 ≢ p → (own p (drop i ws) ≡ []) × (beyond p (drop i ws) ≡ drop i ws)
+pub own-stop : (p i : ℕ) (ws : List Write) (d : Write) → i < length ws → (get_or ws i d).at / 64 ≢ p → (own p (drop i ws) ≡ []) × (beyond p (drop i ws) ≡ drop i ws)
 own-stop p i ws d within ne =
     let more = drop_more ws i d within in
     let stop = own-other p (get_or ws i d) (drop (i + 1) ws) ne in

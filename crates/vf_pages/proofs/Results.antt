@@ -4,6 +4,7 @@ use Rattle.std.specs.Prelude.{Option, Some, None, is_some, is_none}
 use Rattle.std.proofs.lemmas.Bool.{cases_eq, cases_Bool, both_ways}
 use Rattle.std.proofs.lemmas.Option.{same_Some, none-some}
 use Rattle.std.proofs.lemmas.List.FromFn.{get_or-map-range_with_len}
+use Rattle.vf_base.specs.declared.write.Write.{Write}
 use Rattle.vf_frames.specs.declared.holder.Holder.{Holder}
 use Rattle.vf_frames.specs.Holders.{count, Accounts}
 use Rattle.vf_frames.specs.Calls.{NoWin, NotesGrow, SameRest}
@@ -17,26 +18,26 @@ use Rattle.vf_pages.proofs.Entries.{entry-here, entry-other, entry-page}
 use Rattle.vf_pages.proofs.Words.{after-at, written-untouched}
 use Rattle.vf_pages.proofs.Puts.{puts-entry-none, puts-entry-some}
 use Rattle.vf_pages.proofs.InPlaces.{in_place-off, in_place-on}
-use Rattle.vf_pages.proofs.Notes.{notes-then, rest-then, any-left}
+use Rattle.vf_frames.proofs.CallerLemmas.{notes-then, rest-then, any-left}
 use Rattle.vf_pages.proofs.Frames.{or_entry-cases}
 
 -- a page written in place keeps its number and its frame
-pub in_place-page : (ws : List (ℕ × ℕ)) (fresh : List Page) (e : Page) → ((in_place ws fresh e).page ≡ e.page) × ((in_place ws fresh e).frame ≡ e.frame)
+pub in_place-page : (ws : List Write) (fresh : List Page) (e : Page) → ((in_place ws fresh e).page ≡ e.page) × ((in_place ws fresh e).frame ≡ e.frame)
 in_place-page ws fresh e = over (touches e.page ws && is_none (entry e.page fresh)) (after ws e.page e.words) e
   where
     over : (b : Bool) (xs : List ℕ) (e : Page) → ((cond b (record { page = e.page; frame = e.frame; words = xs }) e).page ≡ e.page) × ((cond b (record { page = e.page; frame = e.frame; words = xs }) e).frame ≡ e.frame)
     over true xs e = (refl, refl)
     over false xs e = (refl, refl)
 
-pub pages-in_place : (ws : List (ℕ × ℕ)) (fresh es : List Page) → pages_in (map (in_place ws fresh) es) ≡ pages_in es
+pub pages-in_place : (ws : List Write) (fresh es : List Page) → pages_in (map (in_place ws fresh) es) ≡ pages_in es
 pages-in_place ws fresh [] = refl
 pages-in_place ws fresh (x ∷ xs) = ap₂ (λ y ys. y ∷ ys) (in_place-page ws fresh x).0 (pages-in_place ws fresh xs)
 
-pub frames-in_place : (ws : List (ℕ × ℕ)) (fresh es : List Page) → frames_in (map (in_place ws fresh) es) ≡ frames_in es
+pub frames-in_place : (ws : List Write) (fresh es : List Page) → frames_in (map (in_place ws fresh) es) ≡ frames_in es
 frames-in_place ws fresh [] = refl
 frames-in_place ws fresh (x ∷ xs) = ap₂ (λ y ys. y ∷ ys) (in_place-page ws fresh x).1 (frames-in_place ws fresh xs)
 
-entry-in_place-none : (ws : List (ℕ × ℕ)) (fresh es : List Page) (q : ℕ) → entry q es ≡ None → entry q (map (in_place ws fresh) es) ≡ None
+entry-in_place-none : (ws : List Write) (fresh es : List Page) (q : ℕ) → entry q es ≡ None → entry q (map (in_place ws fresh) es) ≡ None
 entry-in_place-none ws fresh [] q h = refl
 entry-in_place-none ws fresh (x ∷ xs) q h =
     ⊎_elim
@@ -44,7 +45,7 @@ entry-in_place-none ws fresh (x ∷ xs) q h =
     (λ ne. entry-other q (in_place ws fresh x) _ (λ e. ne (e ∙ (in_place-page ws fresh x).0)) ∙ entry-in_place-none ws fresh xs q (sym (entry-other q x xs ne) ∙ h))
     (cases_eq q x.page)
 
-entry-in_place-some : (ws : List (ℕ × ℕ)) (fresh es : List Page) (q : ℕ) (o : Page) → entry q es ≡ Some o → entry q (map (in_place ws fresh) es) ≡ Some (in_place ws fresh o)
+entry-in_place-some : (ws : List Write) (fresh es : List Page) (q : ℕ) (o : Page) → entry q es ≡ Some o → entry q (map (in_place ws fresh) es) ≡ Some (in_place ws fresh o)
 entry-in_place-some ws fresh [] q o h = absurd (cc)
 entry-in_place-some ws fresh (x ∷ xs) q o h =
     ⊎_elim
@@ -61,7 +62,7 @@ look-up q es = either (entry q es)
     either None = inl refl
     either (Some e) = inr (e, refl)
 
-module _ (zero : List ℕ) (pages : List Page) (ws : List (ℕ × ℕ)) (a0 : Option (List ℕ)) (before : Holder) (a : Option (List ℕ)) (now : Holder) (fresh : List Page) where
+module _ (zero : List ℕ) (pages : List Page) (ws : List Write) (a0 : Option (List ℕ)) (before : Holder) (a : Option (List ℕ)) (now : Holder) (fresh : List Page) where
   untouched-none : (q : ℕ) → Gathered zero pages ws a0 before a now fresh → touches q ws ≡ false → entry q fresh ≡ None
   untouched-none q g t =
       ⊎_elim (λ none. none) (λ some. absurd (both_ways (touches q ws) t (g.made q some.0 some.1).0)) (look-up q fresh)

@@ -5,66 +5,12 @@ use Rattle.std.proofs.lemmas.Bool.{false_from_ne_true}
 use Rattle.std.proofs.lemmas.List.{take_more, take-append-drop, map-append}
 use Rattle.vf_frames.specs.declared.holder.Holder.{Holder}
 use Rattle.vf_frames.specs.Numbers.{has}
-use Rattle.vf_frames.specs.Holders.{Accounts, Counts, Keeps}
+use Rattle.vf_frames.specs.Holders.{Keeps}
+use Rattle.vf_frames.proofs.CallerLemmas.{accounts-swap, accounts-behind, accounts-turn, accounts-outer, accounts-last}
 use Rattle.vf_pages.specs.declared.held.Held.{Held}
 use Rattle.vf_pages.specs.Pages.{frame_number, frames_in, occurs, Covers, IsApart, Takes}
 use Rattle.vf_pages.specs.Views.{page_of, pages_of}
 use Rattle.vf_pages.proofs.Frames.{has-from, occurs-append, occurs-last}
-
-counts-swap : (ns : List ℕ) (x y : Holder) (os : List Holder) → Counts ns (x ∷ y ∷ os) → Counts ns (y ∷ x ∷ os)
-counts-swap ns x y os c = record {
-  each = λ f h. omega (arith, c.each f h);
-  parts = omega (arith, c.parts);
-  some_part = (c.some_part.1.0, (c.some_part.0, c.some_part.1.1));
-}
-
-pub accounts-swap : (a : Option (List ℕ)) (x y : Holder) (os : List Holder) → Accounts a (x ∷ y ∷ os) → Accounts a (y ∷ x ∷ os)
-accounts-swap None x y os c = c
-accounts-swap (Some ns) x y os c = counts-swap ns x y os c
-
-counts-behind : (ns : List ℕ) (x y z : Holder) (os : List Holder) → Counts ns (x ∷ y ∷ z ∷ os) → Counts ns (x ∷ z ∷ y ∷ os)
-counts-behind ns x y z os c = record {
-  each = λ f h. omega (arith, c.each f h);
-  parts = omega (arith, c.parts);
-  some_part = (c.some_part.0, (c.some_part.1.1.0, (c.some_part.1.0, c.some_part.1.1.1)));
-}
-
-pub accounts-behind : (a : Option (List ℕ)) (x y z : Holder) (os : List Holder) → Accounts a (x ∷ y ∷ z ∷ os) → Accounts a (x ∷ z ∷ y ∷ os)
-accounts-behind None x y z os c = c
-accounts-behind (Some ns) x y z os c = counts-behind ns x y z os c
-
-counts-turn : (ns : List ℕ) (x y z : Holder) (os : List Holder) → Counts ns (x ∷ y ∷ z ∷ os) → Counts ns (z ∷ y ∷ x ∷ os)
-counts-turn ns x y z os c = record {
-  each = λ f h. omega (arith, c.each f h);
-  parts = omega (arith, c.parts);
-  some_part = (c.some_part.1.1.0, (c.some_part.1.0, (c.some_part.0, c.some_part.1.1.1)));
-}
-
-pub accounts-turn : (a : Option (List ℕ)) (x y z : Holder) (os : List Holder) → Accounts a (x ∷ y ∷ z ∷ os) → Accounts a (z ∷ y ∷ x ∷ os)
-accounts-turn None x y z os c = c
-accounts-turn (Some ns) x y z os c = counts-turn ns x y z os c
-
-counts-outer : (ns : List ℕ) (x y z w : Holder) (os : List Holder) → Counts ns (x ∷ y ∷ z ∷ w ∷ os) → Counts ns (w ∷ y ∷ z ∷ x ∷ os)
-counts-outer ns x y z w os c = record {
-  each = λ f h. omega (arith, c.each f h);
-  parts = omega (arith, c.parts);
-  some_part = (c.some_part.1.1.1.0, (c.some_part.1.0, (c.some_part.1.1.0, (c.some_part.0, c.some_part.1.1.1.1))));
-}
-
-pub accounts-outer : (a : Option (List ℕ)) (x y z w : Holder) (os : List Holder) → Accounts a (x ∷ y ∷ z ∷ w ∷ os) → Accounts a (w ∷ y ∷ z ∷ x ∷ os)
-accounts-outer None x y z w os c = c
-accounts-outer (Some ns) x y z w os c = counts-outer ns x y z w os c
-
-counts-last : (ns : List ℕ) (x y z w : Holder) (os : List Holder) → Counts ns (x ∷ y ∷ z ∷ w ∷ os) → Counts ns (x ∷ y ∷ w ∷ z ∷ os)
-counts-last ns x y z w os c = record {
-  each = λ f h. omega (arith, c.each f h);
-  parts = omega (arith, c.parts);
-  some_part = (c.some_part.0, (c.some_part.1.0, (c.some_part.1.1.1.0, (c.some_part.1.1.0, c.some_part.1.1.1.1))));
-}
-
-pub accounts-last : (a : Option (List ℕ)) (x y z w : Holder) (os : List Holder) → Accounts a (x ∷ y ∷ z ∷ w ∷ os) → Accounts a (x ∷ y ∷ w ∷ z ∷ os)
-accounts-last None x y z w os c = c
-accounts-last (Some ns) x y z w os c = counts-last ns x y z w os c
 
 -- one holder comes to have what a base and what an own holder has
 pub keeps-over : (a b c d : Option (List ℕ)) (own base none some more last : Holder) → Keeps a (base ∷ none ∷ []) b (base ∷ some ∷ []) → Keeps b (own ∷ some ∷ []) c (own ∷ more ∷ [])

@@ -5,6 +5,7 @@ use Rattle.std.specs.List.{Any}
 use Rattle.std.proofs.lemmas.Bool.{or_cases, or_left, or_right, false_from_ne_true}
 use Rattle.std.proofs.lemmas.List.{length_push}
 use Rattle.std.proofs.lemmas.List.Elements.{All-head}
+use Rattle.vf_base.specs.declared.write.Write.{Write}
 use Rattle.vf_frames.specs.declared.holder.Note.{Note}
 use Rattle.vf_frames.specs.declared.holder.Name.{Name}
 use Rattle.vf_frames.specs.declared.holder.Holder.{Holder}
@@ -17,28 +18,28 @@ use Rattle.vf_pages.specs.Needs.{need, needs_frame, free_frames}
 use Rattle.vf_pages.specs.Gathered.{Gathered, GatherNotes, Added, NoFrame, Short, ShortNotes, Unmade}
 use Rattle.vf_pages.proofs.Words.{touches-append, written-append, written-untouched, after-same}
 use Rattle.vf_pages.proofs.Groups.{touches-AllOn, written_pages-append, written_pages-AllOn}
-use Rattle.vf_pages.proofs.Notes.{notes-then, notes-weaker, notes-none, wins-append, any-left, any-right, any-one, rest-then, keeps-then}
+use Rattle.vf_frames.proofs.CallerLemmas.{notes-then, notes-weaker, notes-none, wins-append, any-left, any-right, any-one, rest-then, keeps-then}
 use Rattle.vf_pages.proofs.Frames.{gain-one, one_if-has, occurs-snoc, free-same, free-none, free-gain, need-append, needs-shared, needs-alone, entry-snoc, or_entry-cases, or_entry-none, this-or-none, rises-snoc, none-other}
 
 -- writes of page p leave an earlier page, and earlier writes leave page p
-later-same : (done own : List (ℕ × ℕ)) (p q : ℕ) (words : List ℕ) → AllOn p own → q < p → after done q words ≡ after (done ++ own) q words
+later-same : (done own : List Write) (p q : ℕ) (words : List ℕ) → AllOn p own → q < p → after done q words ≡ after (done ++ own) q words
 later-same done own p q words on lt =
     after-same done (done ++ own) q words (λ a old at.
     sym (written-append done own a old ∙ written-untouched own a (written done a old)
     (false_from_ne_true (touches (a / 64) own) (λ t. absurd (omega (arith, touches-AllOn p (a / 64) own on t, at))))))
 
-earlier-same : (done own : List (ℕ × ℕ)) (p : ℕ) (words : List ℕ) → AllBefore done p → after own p words ≡ after (done ++ own) p words
+earlier-same : (done own : List Write) (p : ℕ) (words : List ℕ) → AllBefore done p → after own p words ≡ after (done ++ own) p words
 earlier-same done own p words before =
     after-same own (done ++ own) p words (λ a old at.
     sym (written-append done own a old ∙ ap (written own a) (written-untouched done a old
     (false_from_ne_true (touches (a / 64) done) (λ t. absurd (omega (arith, before (a / 64) t, at)))))))
 
-one-more : (done : List (ℕ × ℕ)) (w : ℕ × ℕ) (ws : List (ℕ × ℕ)) (p : ℕ) → AllOn p (w ∷ ws) → AllBefore done p → written_pages (done ++ (w ∷ ws)) ≡ written_pages done ++ p ∷ []
+one-more : (done : List Write) (w : Write) (ws : List Write) (p : ℕ) → AllOn p (w ∷ ws) → AllBefore done p → written_pages (done ++ (w ∷ ws)) ≡ written_pages done ++ p ∷ []
 one-more done w ws p on before =
     written_pages-append done (w ∷ ws) (λ q r t u. omega (arith, before q t, touches-AllOn p r (w ∷ ws) on u))
     ∙ ap (λ ps. written_pages done ++ ps) (written_pages-AllOn p w ws on)
 
-module _ (zero : List ℕ) (pages : List Page) (done : List (ℕ × ℕ)) (a0 : Option (List ℕ)) (before : Holder) (a : Option (List ℕ)) (now : Holder) (fresh : List Page) where
+module _ (zero : List ℕ) (pages : List Page) (done : List Write) (a0 : Option (List ℕ)) (before : Holder) (a : Option (List ℕ)) (now : Holder) (fresh : List Page) where
   -- no fresh page is there for a later one
   pub not-fresh : (p : ℕ) → AllBefore done p → Gathered zero pages done a0 before a now fresh → entry p fresh ≡ None
   not-fresh p first g = none_from (entry p fresh) (λ e found. absurd (omega (arith, first p (g.made p e found).0)))
@@ -48,13 +49,13 @@ module _ (zero : List ℕ) (pages : List Page) (done : List (ℕ × ℕ)) (a0 : 
       none_from (Some e) h = absurd (h e refl)
 
   -- a held page whose frame is found alone
-  pub step-alone : (p : ℕ) (w : ℕ × ℕ) (ws : List (ℕ × ℕ)) (o : Page) (a' : Option (List ℕ)) (now' : Holder)
+  pub step-alone : (p : ℕ) (w : Write) (ws : List Write) (o : Page) (a' : Option (List ℕ)) (now' : Holder)
       → AllOn p (w ∷ ws) → AllBefore done p → entry p pages ≡ Some o
       → Looked o.frame true now now' → Keeps a (now ∷ []) a' (now' ∷ [])
       → ((others : List Holder) → Accounts a (now ∷ others) → count o.frame (now ∷ others) ≡ 1) → has o.frame now.frames ≡ true
       → Gathered zero pages done a0 before a now fresh → Gathered zero pages (done ++ (w ∷ ws)) a0 before a' now' fresh
   step-alone p w ws o a' now' on first held look keeps alone there g =
-      let own : List (ℕ × ℕ) = w ∷ ws in
+      let own : List Write = w ∷ ws in
       let none = not-fresh p first g in
       let cases : (q : ℕ) → touches q (done ++ own) ≡ true → (touches q done ≡ true) ⊎ (touches q own ≡ true) = λ q t. or_cases (touches q done) (touches q own) (sym (touches-append q done own) ∙ t) in
       let grown = one-more done w ws p on first in
@@ -150,13 +151,13 @@ module _ (zero : List ℕ) (pages : List Page) (done : List (ℕ × ℕ)) (a0 : 
       needs
 
   -- a fresh page in a claimed frame
-  pub step-add : (p : ℕ) (w : ℕ × ℕ) (ws : List (ℕ × ℕ)) (words : List ℕ) (a' : Option (List ℕ)) (now' : Holder) (fresh' : List Page)
+  pub step-add : (p : ℕ) (w : Write) (ws : List Write) (words : List ℕ) (a' : Option (List ℕ)) (now' : Holder) (fresh' : List Page)
       → AllOn p (w ∷ ws) → AllBefore done p → p < page_limit → NeedsFrame p
       → words ≡ after (w ∷ ws) p (old_words zero p (entry p pages))
       → Added p words a now now' fresh fresh' → Keeps a (now ∷ []) a' (now' ∷ [])
       → Gathered zero pages done a0 before a now fresh → Gathered zero pages (done ++ (w ∷ ws)) a0 before a' now' fresh'
   step-add p w ws words a' now' fresh' on first below needs are added keeps g =
-      let own : List (ℕ × ℕ) = w ∷ ws in
+      let own : List Write = w ∷ ws in
       let new : Page = record { page = p; frame = added.frame; words = words } in
       let none = not-fresh p first g in
       let cases : (q : ℕ) → touches q (done ++ own) ≡ true → (touches q done ≡ true) ⊎ (touches q own ≡ true) = λ q t. or_cases (touches q done) (touches q own) (sym (touches-append q done own) ∙ t) in
@@ -174,7 +175,7 @@ module _ (zero : List ℕ) (pages : List Page) (done : List (ℕ × ℕ)) (a0 : 
             (λ old. let was = g.made q e old in
             (touches-append q done own ∙ or_left (touches q done) (touches q own) was.0, was.1 ∙ later-same done own p q (old_words zero q (entry q pages)) on (first q was.0)))
             (λ last. (
-              touches-append q done own ∙ or_right (touches q done) (touches q own) (or_left (q == w.0 / 64) (touches q ws) (eq-eqb q (w.0 / 64) (last.0 ∙ sym (All-head (λ (w : ℕ × ℕ). w.0 / 64 ≡ p) w ws on)))),
+              touches-append q done own ∙ or_right (touches q done) (touches q own) (or_left (q == w.at / 64) (touches q ws) (eq-eqb q (w.at / 64) (last.0 ∙ sym (All-head (λ (w : Write). w.at / 64 ≡ p) w ws on)))),
               ap (λ (x : Page). x.words) (sym last.1) ∙ are ∙ earlier-same done own p (old_words zero p (entry p pages)) first
                   ∙ ap (λ n. after (done ++ own) n (old_words zero n (entry n pages))) (sym last.0),
             ))
@@ -250,7 +251,7 @@ module _ (zero : List ℕ) (pages : List Page) (done : List (ℕ × ℕ)) (a0 : 
       some_same x o h = cc
 
   -- no frame is free for a page that needs one
-  pub step-short : (p : ℕ) (w : ℕ × ℕ) (ws : List (ℕ × ℕ)) (a' : Option (List ℕ)) (now' : Holder) (fresh' : List Page)
+  pub step-short : (p : ℕ) (w : Write) (ws : List Write) (a' : Option (List ℕ)) (now' : Holder) (fresh' : List Page)
       → AllOn p (w ∷ ws) → AllBefore done p → NeedsFrame p → fresh' ≡ fresh
       → NoFrame a now now' → Keeps a (now ∷ []) a' (now' ∷ [])
       → Gathered zero pages done a0 before a now fresh → Short pages (done ++ (w ∷ ws)) a0 before a' now' fresh'

@@ -1,5 +1,6 @@
 -- What the calls of a holder's pages do (docs/FARM.md, "Pages").
 use Rattle.std.specs.Prelude.{◌≡◌, ℕ, ◌+◌, ◌<◌, ◌≤◌, true, false, ◌||◌, List, [], ◌∷◌, length, Some, is_some}
+use Rattle.vf_base.specs.declared.write.Write.{Write}
 use Rattle.vf_frames.specs.declared.holder.Note.{Note}
 use Rattle.vf_frames.specs.declared.holder.Holder.{Holder}
 use Rattle.vf_frames.specs.Numbers.{has}
@@ -14,11 +15,11 @@ use Rattle.vf_pages.specs.Needs.{need, new_pages, free_frames, frames_held}
 use Rattle.vf_pages.specs.Gathered.{SeenAlone, ShortNotes}
 
 -- each written page is in a frame that some step saw with the count 1
-abbrev pub EachAlone : List (ℕ × ℕ) → List Page → List Note → Type 0
+abbrev pub EachAlone : List Write → List Page → List Note → Type 0
 EachAlone writes pages added = (p f : ℕ) → touches p writes ≡ true → frame_at p pages ≡ Some f → SeenAlone added f
 
 -- the words are written, the pages that writes fall on are held, and the others are as before
-pub record Wrote (writes : List (ℕ × ℕ)) (old new : Pages) : Type 0 where
+pub record Wrote (writes : List Write) (old new : Pages) : Type 0 where
   pub words : (a : ℕ) → word_of new a ≡ written writes a (word_of old a)
   pub held : (p : ℕ) → is_some (entry p new.pages) ≡ (touches p writes || is_some (entry p old.pages))
   pub others : (p : ℕ) → touches p writes ≡ false → entry p new.pages ≡ entry p old.pages
@@ -27,13 +28,13 @@ pub record Wrote (writes : List (ℕ × ℕ)) (old new : Pages) : Type 0 where
   pub notes : NotesGrow (EachAlone writes new.pages) old.holder.notes new.holder.notes
 
 -- where the pool accounts for these others too: none of them has the frame of a written page, a frame that none of them had is kept, and there were frames enough
-pub record WroteAmong (writes : List (ℕ × ℕ)) (old new : Pages) (others : List Holder) : Type 0 where
+pub record WroteAmong (writes : List Write) (old new : Pages) (others : List Holder) : Type 0 where
   pub alone : (p f : ℕ) → touches p writes ≡ true → frame_at p new.pages ≡ Some f → count f others ≡ 0
   pub kept : (p f : ℕ) → touches p writes ≡ true → frame_at p old.pages ≡ Some f → count f others ≡ 0 → frame_at p new.pages ≡ Some f
   pub enough : need others old.pages (written_pages writes) ≤ free_frames old.holder.name.frames (old.holder ∷ others)
 
 -- a claim found no frame: k is how many pages there would be
-pub record IsShort (k : ℕ) (writes : List (ℕ × ℕ)) (old new : Pages) : Type 0 where
+pub record IsShort (k : ℕ) (writes : List Write) (old new : Pages) : Type 0 where
   pub number : k ≡ length old.pages + new_pages old.pages (written_pages writes)
   pub misses : new.holder.misses ≡ capped (old.holder.misses + 1)
   pub parts : new.holder.parts ≡ old.holder.parts
@@ -41,7 +42,7 @@ pub record IsShort (k : ℕ) (writes : List (ℕ × ℕ)) (old new : Pages) : Ty
   pub notes : NotesGrow (ShortNotes old.holder.name.frames (length (written_pages writes))) old.holder.notes new.holder.notes
 
 -- where the pool accounts for these others too: fewer frames are free than the writes need, and the pages that there would be do not fit beside those of the others
-pub record ShortAmong (k : ℕ) (writes : List (ℕ × ℕ)) (old : Pages) (others : List Holder) : Type 0 where
+pub record ShortAmong (k : ℕ) (writes : List Write) (old : Pages) (others : List Holder) : Type 0 where
   pub lacking : free_frames old.holder.name.frames (old.holder ∷ others) < need others old.pages (written_pages writes)
   pub beyond : old.holder.name.frames < k + total frames_held others
 

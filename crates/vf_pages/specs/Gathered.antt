@@ -1,6 +1,7 @@
 -- The pages that writes replace or bring, made and claimed before any page is changed.
 use Rattle.std.specs.Prelude.{◌≡◌, ℕ, ◌+◌, ◌<◌, ◌≤◌, true, List, [], ◌∷◌, ◌++◌, length, Option, Some, None}
 use Rattle.std.specs.List.{Any}
+use Rattle.vf_base.specs.declared.write.Write.{Write}
 use Rattle.vf_frames.specs.declared.holder.Note.{Note}
 use Rattle.vf_frames.specs.declared.holder.Holder.{Holder}
 use Rattle.vf_frames.specs.Holders.{Accounts, Keeps, AllHeld, count}
@@ -16,12 +17,12 @@ abbrev pub SeenAlone : List Note → ℕ → Type 0
 SeenAlone notes f = Any (λ n. (n.frame ≡ f) × (n.seen ≡ 1)) notes
 
 -- a won claim for each fresh page, and each page written, fresh or kept, in a frame seen alone
-pub record GatherNotes (pages : List Page) (done : List (ℕ × ℕ)) (fresh : List Page) (added : List Note) : Type 0 where
+pub record GatherNotes (pages : List Page) (done : List Write) (fresh : List Page) (added : List Note) : Type 0 where
   pub won : wins added ≡ length fresh
   pub alone : (p : ℕ) (e : Page) → touches p done ≡ true → or_entry (entry p fresh) (entry p pages) ≡ Some e → SeenAlone added e.frame
 
 -- the counts where the pool accounts for the holder and others
-pub record CountedPages (pages : List Page) (done : List (ℕ × ℕ)) (fresh : List Page) (before now : Holder) (others : List Holder) : Type 0 where
+pub record CountedPages (pages : List Page) (done : List Write) (fresh : List Page) (before now : Holder) (others : List Holder) : Type 0 where
   pub kept_alone : (p : ℕ) (o : Page) → touches p done ≡ true → entry p fresh ≡ None → entry p pages ≡ Some o → count o.frame others ≡ 0
   pub fresh_alone : (p : ℕ) (e : Page) → entry p fresh ≡ Some e → count e.frame others ≡ 0
   pub was_shared : (p : ℕ) (e o : Page) → entry p fresh ≡ Some e → entry p pages ≡ Some o → 1 ≤ count o.frame others
@@ -29,7 +30,7 @@ pub record CountedPages (pages : List Page) (done : List (ℕ × ℕ)) (fresh : 
   pub taken : free_frames before.name.frames (now ∷ others) + length fresh ≡ free_frames before.name.frames (before ∷ others)
 
 -- for the writes done so far, each page that is new or shared has a fresh one in a claimed frame
-pub record Gathered (zero : List ℕ) (pages : List Page) (done : List (ℕ × ℕ)) (a0 : Option (List ℕ)) (before : Holder) (a : Option (List ℕ)) (now : Holder) (fresh : List Page) : Type 0 where
+pub record Gathered (zero : List ℕ) (pages : List Page) (done : List Write) (a0 : Option (List ℕ)) (before : Holder) (a : Option (List ℕ)) (now : Holder) (fresh : List Page) : Type 0 where
   pub sorted : IsSorted fresh
   pub made : (p : ℕ) (e : Page) → entry p fresh ≡ Some e → (touches p done ≡ true) × (e.words ≡ after done p (old_words zero p (entry p pages)))
   pub kept : (p : ℕ) → touches p done ≡ true → entry p fresh ≡ None → (o : Page) × (entry p pages ≡ Some o)
@@ -63,7 +64,7 @@ pub record ShortNotes (frames pages : ℕ) (added : List Note) : Type 0 where
   pub each : (f : ℕ) → f < frames → SeenHeld added f
 
 -- a claim found no frame: what was gathered is to be given back
-pub record Short (pages : List Page) (writes : List (ℕ × ℕ)) (a0 : Option (List ℕ)) (before : Holder) (a : Option (List ℕ)) (now : Holder) (fresh : List Page) : Type 0 where
+pub record Short (pages : List Page) (writes : List Write) (a0 : Option (List ℕ)) (before : Holder) (a : Option (List ℕ)) (now : Holder) (fresh : List Page) : Type 0 where
   pub owns : Owns pages fresh now.frames
   pub misses : now.misses ≡ capped (before.misses + 1)
   pub parts : now.parts ≡ before.parts
@@ -80,11 +81,11 @@ pub record Unmade (pages : List Page) (a0 : Option (List ℕ)) (before : Holder)
   pub notes : NotesGrow (λ _. Unit {0}) before.notes now.notes
 
 -- the writes of one page take what was gathered one page on
-abbrev pub Goes : List ℕ → List Page → ℕ → List (ℕ × ℕ) → Option (List ℕ) → Holder → List Page → Option (List ℕ) → Holder → List Page → Type 0
+abbrev pub Goes : List ℕ → List Page → ℕ → List Write → Option (List ℕ) → Holder → List Page → Option (List ℕ) → Holder → List Page → Type 0
 Goes zero pages p own a now fresh a' now' fresh' =
-    (done : List (ℕ × ℕ)) (a0 : Option (List ℕ)) (before : Holder) → AllBefore done p → Gathered zero pages done a0 before a now fresh → Gathered zero pages (done ++ own) a0 before a' now' fresh'
+    (done : List Write) (a0 : Option (List ℕ)) (before : Holder) → AllBefore done p → Gathered zero pages done a0 before a now fresh → Gathered zero pages (done ++ own) a0 before a' now' fresh'
 
 -- or they end it, for want of a frame or of memory
-abbrev pub Ends : List ℕ → List Page → ℕ → List (ℕ × ℕ) → Option (List ℕ) → Holder → List Page → Option (List ℕ) → Holder → List Page → Lack → Type 0
+abbrev pub Ends : List ℕ → List Page → ℕ → List Write → Option (List ℕ) → Holder → List Page → Option (List ℕ) → Holder → List Page → Lack → Type 0
 Ends zero pages p own a now fresh a' now' fresh' lack =
-    (done : List (ℕ × ℕ)) (a0 : Option (List ℕ)) (before : Holder) → AllBefore done p → Gathered zero pages done a0 before a now fresh → OnLack lack (Short pages (done ++ own) a0 before a' now' fresh') (Unmade pages a0 before a' now' fresh')
+    (done : List Write) (a0 : Option (List ℕ)) (before : Holder) → AllBefore done p → Gathered zero pages done a0 before a now fresh → OnLack lack (Short pages (done ++ own) a0 before a' now' fresh') (Unmade pages a0 before a' now' fresh')

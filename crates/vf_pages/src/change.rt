@@ -16,11 +16,11 @@ use crate::install::{install, write_in_place};
 use crate::refusal::PageRefusal;
 use crate::search::count_new;
 use std::sync::Arc;
-use vf_base::Memory;
+use vf_base::{Memory, Write};
 use vf_frames::Frames;
 
 // The refusal that a lack makes.
-fn refusal_of(lack: Lack, held: &[Held], writes: &[(u32, u64)], words: usize) -> PageRefusal
+fn refusal_of(lack: Lack, held: &[Held], writes: &[Write], words: usize) -> PageRefusal
     requires sorted { IsSorted (pages_of held.now) }
     requires writes { AreWrites words writes.now }
     ensures { OnLack lack
@@ -44,7 +44,7 @@ const INSERTED: usize = 8;
 fn spare_room(
     held: &Vec<Held>,
     fresh: &[Held],
-    writes: &[(u32, u64)],
+    writes: &[Write],
     words: usize,
 ) -> Result<Vec<Held>, Memory>
     requires sorted { IsSorted (pages_of held.now.items) }
@@ -62,7 +62,7 @@ fn spare_room(
 fn prepare(
     held: &mut Vec<Held>,
     fresh: &Vec<Held>,
-    writes: &[(u32, u64)],
+    writes: &[Write],
     words: usize,
 ) -> Result<Vec<Held>, Memory>
     requires sorted { IsSorted (pages_of held.old.items) }
@@ -87,7 +87,7 @@ pub(crate) fn change<F: Frames>(
     held: &mut Vec<Held>,
     pool: &mut F,
     token: &mut F::Token,
-    writes: &[(u32, u64)],
+    writes: &[Write],
 ) -> Result<(), PageRefusal>
     requires name { (F.seen token.old).name ≡ F.name pool.old }
     requires sorted { IsSorted (pages_of held.old.items) }

@@ -2,6 +2,8 @@ ghost use Rattle.std.specs.Prelude.{◌≡◌, ◌%◌, slice_index};
 ghost use Rattle.vf_pages.specs.Pages.{zero_page};
 ghost use Rattle.vf_pages.specs.Writes.{after, AllOn};
 
+use vf_base::Write;
+
 /// The word at an index, 0 past the last.
 pub(crate) fn word_or_zero(words: &[u64], at: usize) -> u64
     ensures { result ≡ slice_index words.now at }
@@ -28,17 +30,17 @@ pub(crate) fn zero_words(zero: &[u64], page: u32) -> [u64; 64]
 }
 
 /// Writes words of one page in place.
-pub(crate) fn write_words(words: &mut [u64; 64], page: u32, writes: &[(u32, u64)])
+pub(crate) fn write_words(words: &mut [u64; 64], page: u32, writes: &[Write])
     requires { AllOn page writes.now }
     ensures { words.new ≡ after writes.now page words.old }
 {
     for write in writes {
-        words[(write.0 % 64) as usize] = write.1;
+        words[(write.at % 64) as usize] = write.word;
     }
 }
 
 /// The words of a page after writes.
-pub(crate) fn written_words(words: &[u64; 64], page: u32, writes: &[(u32, u64)]) -> [u64; 64]
+pub(crate) fn written_words(words: &[u64; 64], page: u32, writes: &[Write]) -> [u64; 64]
     requires { AllOn page writes.now }
     ensures { result ≡ after writes.now page words.now }
 {

@@ -10,10 +10,10 @@ use crate::held::Held;
 use crate::search::{find, kept_place, split_page};
 use std::alloc::Global;
 use std::sync::Arc;
-use vf_base::Memory;
+use vf_base::{Memory, Write};
 
 // A page with a content of its own, after writes.
-fn copy_page(alloc: Global, one: &Held, own: &[(u32, u64)]) -> Result<Held, Memory>
+fn copy_page(alloc: Global, one: &Held, own: &[Write]) -> Result<Held, Memory>
     requires { AllOn one.now.page.0 own.now }
     ensures { IfOk result (λ copy. page_of copy ≡ rewritten own.now (page_of one.now)) }
 {
@@ -31,7 +31,7 @@ fn add_copy(
     held: &[Held],
     fresh: &[Held],
     at: u32,
-    own: &[(u32, u64)],
+    own: &[Write],
     copies: &mut Vec<Held>,
 ) -> Result<(), Memory>
     requires sorted { IsSorted (pages_of held.now) }
@@ -53,7 +53,7 @@ fn copy_kept(
     alloc: Global,
     held: &[Held],
     fresh: &[Held],
-    writes: &[(u32, u64)],
+    writes: &[Write],
     words: usize,
 ) -> Result<Vec<Held>, Memory>
     requires sorted { IsSorted (pages_of held.now) }
@@ -67,8 +67,8 @@ fn copy_kept(
     let mut copies = Vec::new(alloc);
     let mut rest = writes;
     while let Some(first) = rest.first() {
-        let (own, more) = split_page(first.0 / 64, rest);
-        add_copy(alloc, held, fresh, first.0, own, &mut copies)?;
+        let (own, more) = split_page(first.at / 64, rest);
+        add_copy(alloc, held, fresh, first.at, own, &mut copies)?;
         rest = more;
     }
     Ok(copies)
@@ -102,7 +102,7 @@ pub(crate) fn write_copies(
     alloc: Global,
     held: &mut [Held],
     fresh: &[Held],
-    writes: &[(u32, u64)],
+    writes: &[Write],
     words: usize,
 ) -> Result<(), Memory>
     requires sorted { IsSorted (pages_of held.old) }

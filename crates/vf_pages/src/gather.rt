@@ -7,10 +7,10 @@ ghost use Rattle.vf_pages.specs.Writes.{AllOn, AreWrites};
 ghost use Rattle.vf_pages.specs.Gathered.{Added, NoFrame, OnLack, Goes, Ends, Gathered, Short, Unmade};
 
 use crate::content::{written_words, zero_words};
-use crate::held::Held;
+use crate::held::{Held, PageNo};
 use crate::search::{find, split_page};
 use std::sync::Arc;
-use vf_base::PageNo;
+use vf_base::Write;
 use vf_frames::Frames;
 
 /// Why what writes need could not be had.
@@ -63,7 +63,7 @@ fn gather_page<F: Frames>(
     pool: &mut F,
     token: &mut F::Token,
     at: u32,
-    own: &[(u32, u64)],
+    own: &[Write],
     fresh: &mut Vec<Held>,
 ) -> Result<(), Lack>
     requires name { (F.seen token.old).name ≡ F.name pool.old }
@@ -98,7 +98,7 @@ pub(crate) fn gather<F: Frames>(
     held: &[Held],
     pool: &mut F,
     token: &mut F::Token,
-    writes: &[(u32, u64)],
+    writes: &[Write],
     fresh: &mut Vec<Held>,
 ) -> Result<(), Lack>
     requires name { (F.seen token.old).name ≡ F.name pool.old }
@@ -117,8 +117,8 @@ pub(crate) fn gather<F: Frames>(
 {
     let mut rest = writes;
     while let Some(first) = rest.first() {
-        let (own, more) = split_page(first.0 / 64, rest);
-        if let Err(lack) = gather_page(zero, held, pool, token, first.0, own, fresh) {
+        let (own, more) = split_page(first.at / 64, rest);
+        if let Err(lack) = gather_page(zero, held, pool, token, first.at, own, fresh) {
             return Err(lack);
         }
         rest = more;

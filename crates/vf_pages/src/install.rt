@@ -17,7 +17,7 @@ use crate::search::{find, kept_place, split_page};
 use std::alloc::Global;
 use std::mem;
 use std::sync::Arc;
-use vf_base::Memory;
+use vf_base::{Memory, Write};
 use vf_frames::Frames;
 
 /// Writes the pages that have no fresh one where they are. From the first whose content another holder
@@ -27,7 +27,7 @@ pub(crate) fn write_in_place(
     alloc: Global,
     held: &mut [Held],
     fresh: &[Held],
-    writes: &[(u32, u64)],
+    writes: &[Write],
     words: usize,
     depth: u32,
 ) -> Result<(), Memory>
@@ -43,7 +43,7 @@ pub(crate) fn write_in_place(
     let Some(depth) = depth.checked_sub(1) else {
         return write_copies(alloc, held, fresh, writes, words);
     };
-    let page = first.0 / 64;
+    let page = first.at / 64;
     let (own, more) = split_page(page, writes);
     let Some(place) = kept_place(held, fresh, page) else {
         return write_in_place(alloc, held, fresh, more, words, depth);

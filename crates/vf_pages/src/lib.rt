@@ -19,7 +19,7 @@ mod refusal;
 mod search;
 mod share;
 
-pub use held::Held;
+pub use held::{Held, PageNo};
 pub use paged::Paged;
 pub use refusal::PageRefusal;
 

@@ -7,14 +7,14 @@ use crate::base::{are_apart, drop_unchanged, hold_over, share_with_room};
 use crate::change::change;
 use crate::content::word_in;
 use crate::gather::give_up;
-use crate::held::Held;
+use crate::held::{Held, PageNo};
 use crate::refusal::PageRefusal;
 use crate::search::find;
 use crate::share::{hold_all, share};
 use std::alloc::Global;
 use std::marker::Model;
 use std::sync::Arc;
-use vf_base::{Memory, PageNo};
+use vf_base::{Memory, Write};
 use vf_frames::Frames;
 
 /// The pages of one holder over a pool of frames: what was written since time zero. A page that is not
@@ -92,7 +92,7 @@ impl<F: Frames> Paged<F> {
     ///
     /// `Short` comes where a claim found no frame. Where the pool accounts for this holder and others it
     /// comes exactly where fewer frames are free than the writes need.
-    pub fn write_all(&mut self, pool: &mut F, writes: &[(u32, u64)]) -> Result<(), PageRefusal>
+    pub fn write_all(&mut self, pool: &mut F, writes: &[Write]) -> Result<(), PageRefusal>
         requires name { self.old.holder.name ≡ F.name pool.old }
         requires writes { AreWrites (length self.old.zero) writes.now }
         ensures ok { OnOk result (Wrote writes.now self.old self.new) }
@@ -117,6 +117,8 @@ impl<F: Frames> Paged<F> {
     pub fn pages(&self) -> u32
         ensures count { result ≡ length self.now.pages }
         ensures budget { result ≤ self.now.holder.name.frames }
+        ensures sorted { IsSorted self.now.pages }
+        ensures frames { length self.now.holder.frames ≡ length self.now.pages }
     {
         self.held.len() as u32
     }

@@ -5,6 +5,7 @@ ghost use Rattle.vf_pages.specs.Writes.{own, beyond, AreWrites, written_pages};
 ghost use Rattle.vf_pages.specs.Needs.{is_new, new_pages};
 
 use crate::held::Held;
+use vf_base::Write;
 
 /// The page of an address.
 pub(crate) fn page_of_address(at: u32) -> u32
@@ -57,13 +58,13 @@ pub(crate) fn kept_place(held: &[Held], fresh: &[Held], page: u32) -> Option<usi
 }
 
 // How many writes at the front fall on a page.
-fn own_count(page: u32, writes: &[(u32, u64)]) -> usize
+fn own_count(page: u32, writes: &[Write]) -> usize
     ensures within { result ≤ length writes.now }
     ensures own { take result writes.now ≡ own page writes.now }
     ensures beyond { drop result writes.now ≡ beyond page writes.now }
 {
     for i in 0..writes.len() {
-        if writes[i].0 / 64 != page {
+        if writes[i].at / 64 != page {
             return i;
         }
     }
@@ -71,7 +72,7 @@ fn own_count(page: u32, writes: &[(u32, u64)]) -> usize
 }
 
 /// The writes at the front that fall on a page, and the others.
-pub(crate) fn split_page(page: u32, writes: &[(u32, u64)]) -> (&[(u32, u64)], &[(u32, u64)])
+pub(crate) fn split_page(page: u32, writes: &[Write]) -> (&[Write], &[Write])
     ensures own { result.0.now ≡ own page writes.now }
     ensures beyond { result.1.now ≡ beyond page writes.now }
 {
@@ -91,7 +92,7 @@ fn new_count(held: &[Held], page: u32) -> usize
 }
 
 /// How many pages writes fall on that are not held.
-pub(crate) fn count_new(held: &[Held], writes: &[(u32, u64)], words: usize) -> usize
+pub(crate) fn count_new(held: &[Held], writes: &[Write], words: usize) -> usize
     requires sorted { IsSorted (pages_of held.now) }
     requires writes { AreWrites words writes.now }
     ensures count { result ≡ new_pages (pages_of held.now) (written_pages writes.now) }
@@ -100,7 +101,7 @@ pub(crate) fn count_new(held: &[Held], writes: &[(u32, u64)], words: usize) -> u
     let mut count = 0;
     let mut rest = writes;
     while let Some(first) = rest.first() {
-        let page = page_of_address(first.0);
+        let page = page_of_address(first.at);
         count += new_count(held, page);
         let (_, more) = split_page(page, rest);
         rest = more;

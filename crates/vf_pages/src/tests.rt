@@ -6,7 +6,7 @@ use crate::{PageRefusal, Paged};
 use std::alloc::Global;
 use std::sync::Arc;
 use std::test::Fail;
-use vf_base::Memory;
+use vf_base::{Memory, Write};
 use vf_frames::{Frames, PlainPool};
 
 // So many words, all 0 at time zero.
@@ -16,21 +16,27 @@ fn zeros(alloc: Global, count: usize) -> Result<Arc<Vec<u64>>, Memory>
     Ok(Arc::new(alloc, vec![in alloc; 0u64; count]?)?)
 }
 
+fn set(at: u32, word: u64) -> Write
+    ensures { result ≡ record { at = at; word = word } }
+{
+    Write { at, word }
+}
+
 // A fork shares words until either holder writes, and neither sees what the other writes.
 #[test]
 fn a_write_after_a_fork_is_seen_by_its_holder_alone(rt: HostRuntime) -> Result<(), Fail> {
     let alloc = rt.alloc();
     let (mut pool, mut hand) = PlainPool::new(alloc, 8)?;
     let mut first = Paged::at_zero(alloc, &mut pool, &mut hand, zeros(alloc, 256)?)?;
-    first.write_all(&mut pool, &[(3, 30), (70, 700)])?;
+    first.write_all(&mut pool, &[set(3, 30), set(70, 700)])?;
     let mut second = first.fork(&mut pool, &mut hand)?;
     assert_eq!(rt;
         (second.read(3), second.read(70), second.pages()),
         (30, 700, 2)
     );
 
-    first.write_all(&mut pool, &[(3, 31)])?;
-    second.write_all(&mut pool, &[(70, 701), (130, 9)])?;
+    first.write_all(&mut pool, &[set(3, 31)])?;
+    second.write_all(&mut pool, &[set(70, 701), set(130, 9)])?;
     assert_eq!(rt;
         (first.read(3), first.read(70), first.read(130)),
         (31, 700, 0)
@@ -42,7 +48,7 @@ fn a_write_after_a_fork_is_seen_by_its_holder_alone(rt: HostRuntime) -> Result<(
     assert_eq!(rt; (first.pages(), second.pages()), (2, 3));
 
     first.give_back(&mut pool, &mut hand);
-    second.write_all(&mut pool, &[(3, 32), (4, 4)])?;
+    second.write_all(&mut pool, &[set(3, 32), set(4, 4)])?;
     assert_eq!(rt; (second.read(3), second.read(4)), (32, 4));
     second.give_back(&mut pool, &mut hand);
     Ok(())
@@ -55,7 +61,7 @@ fn short_says_how_many_pages_there_would_be(rt: HostRuntime) -> Result<(), Fail>
     let (mut pool, mut hand) = PlainPool::new(alloc, 4)?;
     let taken = pool.claim(&mut hand).ok_or("a free frame")?;
     let mut paged = Paged::at_zero(alloc, &mut pool, &mut hand, zeros(alloc, 256)?)?;
-    let writes = [(0, 1), (1, 2), (64, 3), (128, 4), (192, 5)];
+    let writes = [set(0, 1), set(1, 2), set(64, 3), set(128, 4), set(192, 5)];
     assert_eq!(rt;
         paged.write_all(&mut pool, &writes),
         Err(PageRefusal::Short(4))
@@ -81,23 +87,23 @@ fn many_pages_are_written_at_once(rt: HostRuntime) -> Result<(), Fail> {
     let (mut pool, mut hand) = PlainPool::new(alloc, 40)?;
     let mut paged = Paged::at_zero(alloc, &mut pool, &mut hand, zeros(alloc, 2560)?)?;
     let half = [
-        (0, 100), (128, 101), (256, 102), (384, 103), (512, 104), (640, 105), (768, 106), (896, 107), (1024, 108),
-        (1152, 109), (1280, 110), (1408, 111), (1536, 112), (1664, 113), (1792, 114), (1920, 115), (2048, 116),
-        (2176, 117), (2304, 118), (2432, 119),
+        set(0, 100), set(128, 101), set(256, 102), set(384, 103), set(512, 104), set(640, 105), set(768, 106), set(896, 107), set(1024, 108),
+        set(1152, 109), set(1280, 110), set(1408, 111), set(1536, 112), set(1664, 113), set(1792, 114), set(1920, 115), set(2048, 116),
+        set(2176, 117), set(2304, 118), set(2432, 119),
     ];
     paged.write_all(&mut pool, &half)?;
     assert_eq!(rt; (paged.pages(), paged.read(128), paged.read(2432)), (20, 101, 119));
 
     let all = [
-        (0, 200), (64, 201), (128, 202), (192, 203), (256, 204), (320, 205), (384, 206), (448, 207), (512, 208),
-        (576, 209), (640, 210), (704, 211), (768, 212), (832, 213), (896, 214), (960, 215), (1024, 216), (1088, 217),
-        (1152, 218), (1216, 219), (1280, 220), (1344, 221), (1408, 222), (1472, 223), (1536, 224), (1600, 225),
-        (1664, 226), (1728, 227), (1792, 228), (1856, 229), (1920, 230), (1984, 231), (2048, 232), (2112, 233),
-        (2176, 234), (2240, 235), (2304, 236), (2368, 237), (2432, 238), (2496, 239),
+        set(0, 200), set(64, 201), set(128, 202), set(192, 203), set(256, 204), set(320, 205), set(384, 206), set(448, 207), set(512, 208),
+        set(576, 209), set(640, 210), set(704, 211), set(768, 212), set(832, 213), set(896, 214), set(960, 215), set(1024, 216), set(1088, 217),
+        set(1152, 218), set(1216, 219), set(1280, 220), set(1344, 221), set(1408, 222), set(1472, 223), set(1536, 224), set(1600, 225),
+        set(1664, 226), set(1728, 227), set(1792, 228), set(1856, 229), set(1920, 230), set(1984, 231), set(2048, 232), set(2112, 233),
+        set(2176, 234), set(2240, 235), set(2304, 236), set(2368, 237), set(2432, 238), set(2496, 239),
     ];
     paged.write_all(&mut pool, &all)?;
     assert_eq!(rt; (paged.pages(), paged.read(64), paged.read(128), paged.read(2496)), (40, 201, 202, 239));
-    paged.write_all(&mut pool, &[(65, 1)])?;
+    paged.write_all(&mut pool, &[set(65, 1)])?;
     paged.write_all(&mut pool, &all)?;
     assert_eq!(rt; (paged.pages(), paged.read(65), paged.read(0), paged.read(2496)), (40, 1, 200, 239));
     paged.give_back(&mut pool, &mut hand);
@@ -105,13 +111,13 @@ fn many_pages_are_written_at_once(rt: HostRuntime) -> Result<(), Fail> {
 }
 
 // A write of the value to the first word of each page.
-fn on_each_page(alloc: Global, pages: u32, value: u64) -> Result<Vec<(u32, u64)>, Memory>
+fn on_each_page(alloc: Global, pages: u32, value: u64) -> Result<Vec<Write>, Memory>
     requires { pages ≤ 32768 }
     ensures { IfOk result (λ writes. AreWrites (64 * pages) writes.items) }
 {
     let mut writes = Vec::new(alloc);
     for page in 0..pages {
-        writes.push((64 * page, value))?;
+        writes.push(set(64 * page, value))?;
     }
     Ok(writes)
 }

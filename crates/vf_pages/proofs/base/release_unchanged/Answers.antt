@@ -1,7 +1,7 @@
 use Rattle.std.proofs.Common.{List, sym, ap, subst, ◌∙◌}
 use Rattle.vf_pages.specs.Pages.{Page}
 use Rattle.vf_pages.specs.Views.{pages_of}
-use Rattle.vf_pages.proofs.Notes.{rest-then, keeps-then, pool-then, no-win-then}
+use Rattle.vf_frames.proofs.CallerLemmas.{rest-then, keeps-then, pool-then, no-win-then}
 use Rattle.vf_pages.proofs.Bases.{Released_so_far, step-kept, step-gone}
 use Rattle.vf_pages.proofs.base.release_unchanged.Goals as goal
 

@@ -12,14 +12,14 @@ use Rattle.vf_pages.proofs.copies.copy_kept.Goals as goal
 
 pub add_copy-requires-clause-own : goal.add_copy-requires-clause-own
 add_copy-requires-clause-own c =
-    let p : ℕ = c.in-Some.first.now.0 / 64 in
+    let p : ℕ = c.in-Some.first.now.at / 64 in
     subst (λ ws. AllOn p ws) (sym c.split_page.ensures.own) (AllOn-own p c.loop-first.rest.now)
 
 pub loop-first-preserved : goal.loop-first-preserved
 loop-first-preserved c =
     let inv = c.loop-first.invariant in
     let first = c.in-Some.first.now in
-    let p : ℕ = first.0 / 64 in
+    let p : ℕ = first.at / 64 in
     let rest = c.loop-first.rest.now in
     let more = c.split_page.ensures.beyond in
     let copied = c.in_ok-add_copy.ensures in

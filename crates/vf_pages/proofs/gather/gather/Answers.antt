@@ -6,7 +6,7 @@ use Rattle.vf_pages.specs.declared.held.Held.{Held}
 use Rattle.std.proofs.Common.{List, []}
 use Rattle.vf_pages.proofs.Groups.{AllOn-own}
 use Rattle.vf_pages.proofs.Steps.{gathered-none}
-use Rattle.vf_pages.proofs.Notes.{pool-then}
+use Rattle.vf_frames.proofs.CallerLemmas.{pool-then}
 use Rattle.vf_pages.proofs.Progress.{first-shorter, progress-goes, progress-ends}
 use Rattle.vf_pages.proofs.gather.gather.Goals as goal
 
@@ -29,7 +29,7 @@ loop-first-init g c =
 
 pub gather_page-requires-clause-own : goal.gather_page-requires-clause-own
 gather_page-requires-clause-own g c =
-    let p : ℕ = c.in-Some.first.now.0 / 64 in
+    let p : ℕ = c.in-Some.first.now.at / 64 in
     subst (λ ws. AllOn p ws) (sym c.split_page.ensures.own) (AllOn-own p c.loop-first.rest.now)
 
 pub returns-in-Err-clause-err : goal.returns-in-Err-clause-err

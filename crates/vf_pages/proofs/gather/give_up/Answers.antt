@@ -1,5 +1,5 @@
 use Rattle.std.proofs.Common.{ℕ, cond, refl, ap, eq-eqb, arith}
-use Rattle.vf_pages.proofs.Notes.{rest-then, keeps-then, pool-then, no-win-then}
+use Rattle.vf_frames.proofs.CallerLemmas.{rest-then, keeps-then, pool-then, no-win-then}
 use Rattle.vf_pages.proofs.Frames.{has-from, lose-one, occurs-last}
 use Rattle.vf_pages.proofs.gather.give_up.Goals as goal
 

@@ -19,7 +19,7 @@ returns-in_default-clause-ok t c =
 pub write_in_place-requires : goal.write_in_place-requires
 write_in_place-requires t c =
     let first = c.in-Some.first.now in
-    let p : ℕ = first.0 / 64 in
+    let p : ℕ = first.at / 64 in
     let more = c.split_page.ensures.beyond in (
       omega (arith, c.decreases, first-shorter c.args.writes.now first c.in-Some.ensures.value, ap length more),
       (c.requires.sorted, (c.requires.fresh, ap (λ xs. rises 0 c.args.words (map address xs)) more ∙ beyond-rises p 0 c.args.words c.args.writes.now c.requires.writes)),
@@ -29,7 +29,7 @@ pub returns-in_default-kept_place-clause-ok : goal.returns-in_default-kept_place
 returns-in_default-kept_place-clause-ok t c =
     let fresh = pages_of c.args.fresh.now in
     let held = pages_of c.args.held.now in
-    let p : ℕ = c.in-Some.first.now.0 / 64 in
+    let p : ℕ = c.in-Some.first.now.at / 64 in
     on_ok_weaker c.write_in_place.result
     (λ e. e ∙ ap (λ ws. map (in_place ws fresh) held) c.split_page.ensures.beyond ∙ in_place-skip p c.args.writes.now fresh held c.in_default-kept_place.ensures.none)
     c.write_in_place.ensures.ok
@@ -37,7 +37,7 @@ returns-in_default-kept_place-clause-ok t c =
 pub write_in_place-requires-2 : goal.write_in_place-requires-2
 write_in_place-requires-2 t c =
     let first = c.in-Some.first.now in
-    let p : ℕ = first.0 / 64 in
+    let p : ℕ = first.at / 64 in
     let more = c.split_page.ensures.beyond in (
       omega (arith, c.decreases, first-shorter c.args.writes.now first c.in-Some.ensures.value, ap length more),
       (
@@ -48,13 +48,13 @@ write_in_place-requires-2 t c =
 
 pub write_words-requires : goal.write_words-requires
 write_words-requires t c =
-    let p : ℕ = c.in-Some.first.now.0 / 64 in
+    let p : ℕ = c.in-Some.first.now.at / 64 in
     subst (λ ws. AllOn p ws) (sym c.split_page.ensures.own) (AllOn-own p c.args.writes.now)
 
 pub returns-clause-ok : goal.returns-clause-ok
 returns-clause-ok t c =
     let first = c.in-Some.first.now in
-    let p : ℕ = first.0 / 64 in
+    let p : ℕ = first.at / 64 in
     let fresh = pages_of c.args.fresh.now in
     let slot = c.in-Some-split_first_mut.slot.now in
     let later = c.in-Some-split_first_mut.later.now in

@@ -3,7 +3,7 @@ use Rattle.vf_frames.specs.Numbers.{rises}
 use Rattle.vf_pages.specs.Pages.{pages_in, frames_in, occurs, page_limit}
 use Rattle.vf_pages.specs.Views.{page_of, pages_of}
 use Rattle.vf_pages.specs.Puts.{puts, frame_count}
-use Rattle.vf_pages.proofs.Notes.{rest-then, keeps-then, pool-then, no-win-then}
+use Rattle.vf_frames.proofs.CallerLemmas.{rest-then, keeps-then, pool-then, no-win-then}
 use Rattle.vf_pages.proofs.Frames.{pages-last, occurs-last, rises-last}
 use Rattle.vf_pages.proofs.Puts.{put-rises, put-occurs, puts-snoc}
 use Rattle.vf_pages.proofs.Goes.{owned-has}

@@ -6,7 +6,7 @@ use Rattle.vf_pages.specs.declared.held.Held.{Held}
 use Rattle.vf_pages.specs.Pages.{pages_in, frames_in, occurs, page_limit}
 use Rattle.vf_pages.specs.Views.{page_of, pages_of}
 use Rattle.vf_pages.specs.Puts.{puts}
-use Rattle.vf_pages.proofs.Notes.{rest-then, keeps-then, pool-then, no-win-then}
+use Rattle.vf_frames.proofs.CallerLemmas.{rest-then, keeps-then, pool-then, no-win-then}
 use Rattle.vf_pages.proofs.Frames.{pages-last, occurs-last, occurs-entry, has-from, rises-last}
 use Rattle.vf_pages.proofs.Merging.{rises-front, reverse-last, occurs-both, occurs-between, puts-rises}
 use Rattle.vf_pages.proofs.merge.merge.Goals as goal

@@ -1,5 +1,5 @@
 use Rattle.std.proofs.Common.{arith}
-use Rattle.vf_pages.proofs.Notes.{rest-then, pool-then, no-win-then}
+use Rattle.vf_frames.proofs.CallerLemmas.{rest-then, pool-then, no-win-then}
 use Rattle.vf_pages.proofs.Frames.{gain-one}
 use Rattle.vf_pages.proofs.Shuffles.{keeps-beside, occurs-next, next-there, next-absent}
 use Rattle.vf_pages.proofs.share.hold_all.Goals as goal

@@ -6,10 +6,7 @@ use Rattle.std.proofs.lemmas.List.{get_or_append_left, get_or-append-add, length
 use Rattle.std.proofs.lemmas.List.Sums.{sum_by-append}
 use Rattle.vf_frames.specs.declared.holder.Note.{Note}
 use Rattle.vf_frames.specs.declared.holder.Holder.{Holder}
-use Rattle.vf_frames.specs.Calls.{wins, NotesGrow, SameRest}
-use Rattle.vf_frames.specs.declared.holder.Name.{Name}
-use Rattle.vf_frames.specs.Holders.{Keeps, SamePool}
-use Rattle.vf_frames.specs.Calls.{NoWin}
+use Rattle.vf_frames.specs.Calls.{wins, NotesGrow, SameRest, NoWin}
 
 pub notes-then : (P Q R : List Note → Type 0) (a b c : Option (List Note)) → NotesGrow P a b → NotesGrow Q b c → ((x y : List Note) → P x → Q y → R (x ++ y)) → NotesGrow R a c
 notes-then P Q R None b c p q f = subst (λ o. NotesGrow Q o c) p q
@@ -41,12 +38,6 @@ any-one P n p = (0, n, omega arith, refl, p)
 
 pub rest-then : (a b c : Holder) → SameRest a b → SameRest b c → SameRest a c
 rest-then a b c p q = record { misses = q.misses ∙ p.misses; parts = q.parts ∙ p.parts; name = q.name ∙ p.name }
-
-pub keeps-then : (a b c : Option (List ℕ)) (h i j : Holder) → Keeps a (h ∷ []) b (i ∷ []) → Keeps b (i ∷ []) c (j ∷ []) → Keeps a (h ∷ []) c (j ∷ [])
-keeps-then a b c h i j p q = λ others x. q others (p others x)
-
-pub pool-then : (a b c : Name) (x y z : Option (List ℕ)) → SamePool a x b y → SamePool b y c z → SamePool a x c z
-pool-then a b c x y z p q = record { name = q.name ∙ p.name; told = q.told ∙ p.told }
 
 pub no-win-then : (a b c : Option (List Note)) → NotesGrow NoWin a b → NotesGrow NoWin b c → NotesGrow NoWin a c
 no-win-then a b c p q = notes-then NoWin NoWin NoWin a b c p q (λ xs ys x y. omega (arith, wins-append xs ys, x, y))
