@@ -37,6 +37,13 @@ get_or-tabulate f zero i h = absurd (omega arith)
 get_or-tabulate f (suc n) zero h = refl
 get_or-tabulate f (suc n) (suc i) h = get_or-tabulate (λ j. f (suc j)) n i (omega arith)
 
+-- the first of those that are tabulated
+pub tabulate-cut : (f : ℕ → Bit) (m n : ℕ) → m ≤ n → take m (tabulate f n) ≡ tabulate f m
+unfolding tabulate
+tabulate-cut f zero n h = refl
+tabulate-cut f (suc m) zero h = absurd (omega arith)
+tabulate-cut f (suc m) (suc n) h = ap (λ (bits : List Bit). f 0 ∷ bits) (tabulate-cut (λ i. f (suc i)) m n (omega arith))
+
 -- ---- the calls
 
 first_or_same : (b : Bit) (i : ℕ) → (if nat_lt i 1 then get_or (b ∷ []) i X else b) ≡ b

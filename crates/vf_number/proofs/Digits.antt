@@ -1,5 +1,5 @@
 -- The bits that digits have.
-use Rattle.std.proofs.Common.{◌≡◌, ◌≢◌, ℕ, zero, suc, ◌+◌, ◌-◌, ◌^◌, ◌<◌, ◌≤◌, Bool, true, false, if◌then◌else◌, List, [], ◌∷◌, ◌++◌, length, take, replicate, Ok, Err, refl, ap, sym, ◌∙◌, inl, inr, append_assoc, arith}
+use Rattle.std.proofs.Common.{◌≡◌, ◌≢◌, ℕ, zero, suc, ◌+◌, ◌-◌, ◌^◌, ◌<◌, ◌≤◌, true, false, if◌then◌else◌, List, [], ◌∷◌, ◌++◌, length, take, replicate, Ok, Err, refl, ap, sym, ◌∙◌, inl, inr, append_assoc, arith}
 use Rattle.std.specs.Char.{digit_value}
 use Rattle.std.proofs.lemmas.Bool.{cases_Bool, le-leb, lt-leb, eq-eqb, ne_eqb}
 use Rattle.std.proofs.lemmas.List.{take_all, take-take, take-replicate, length-replicate}
@@ -8,6 +8,7 @@ use Rattle.vf_fours.specs.declared.Bit.{Bit}
 use Rattle.vf_fours.specs.declared.Bit.TheVariants.{X, Z}
 use Rattle.vf_fours.specs.Numbers.{digits_of, digit, bit_is}
 use Rattle.vf_fours.specs.Shapes.{length-tabulate}
+use Rattle.vf_number.proofs.BitLists.{tabulate-cut}
 use Rattle.vf_number.specs.declared.bases.Base.{Base}
 use Rattle.vf_number.specs.declared.bases.Base.TheVariants.{Binary, Octal, Decimal, Hex}
 use Rattle.vf_number.specs.declared.fault.NumberFault.TheVariants.{BadNumber}
@@ -74,13 +75,30 @@ filled_digits base digits fill w h =
     ∙ take-take w 128 (spelled_bits base digits ++ replicate 128 fill) h
     ∙ take_filled (spelled_bits base digits) fill w 128 w h (omega arith)
 
-pub bits_are : (base : Base) (digits : List ℕ) (w : ℕ) → is_decimal base ≡ false → w ≤ 128
-    → take w (with_digits base digits (replicate 128 (fill_of digits))) ≡ bits_at base w digits
+pub bits_are : (base : Base) (digits : List ℕ) → is_decimal base ≡ false
+    → take 128 (with_digits base digits (replicate 128 (fill_of digits))) ≡ bits_at base 128 digits
 unfolding bits_at
-bits_are Binary digits w h k = filled_digits Binary digits (fill_of digits) w k
-bits_are Octal digits w h k = filled_digits Octal digits (fill_of digits) w k
-bits_are Decimal digits w h k = absurd cc
-bits_are Hex digits w h k = filled_digits Hex digits (fill_of digits) w k
+bits_are Binary digits h = filled_digits Binary digits (fill_of digits) 128 (omega arith)
+bits_are Octal digits h = filled_digits Octal digits (fill_of digits) 128 (omega arith)
+bits_are Decimal digits h = absurd cc
+bits_are Hex digits h = filled_digits Hex digits (fill_of digits) 128 (omega arith)
+
+cut_spelled : (base : Base) (digits : List ℕ) (fill : Bit) (w : ℕ) → w ≤ 128
+    → take w (take 128 (spelled_bits base digits ++ replicate 128 fill)) ≡ take w (spelled_bits base digits ++ replicate w fill)
+cut_spelled base digits fill w h =
+    take-take w 128 (spelled_bits base digits ++ replicate 128 fill) h
+    ∙ take_filled (spelled_bits base digits) fill w 128 w h (omega arith)
+
+-- the bits at a width are the low ones of those at the widest
+pub bits_cut : (base : Base) (digits : List ℕ) (w : ℕ) → w ≤ 128 → take w (bits_at base 128 digits) ≡ bits_at base w digits
+unfolding bits_at digits_of
+bits_cut Binary digits w h = cut_spelled Binary digits (fill_of digits) w h
+bits_cut Octal digits w h = cut_spelled Octal digits (fill_of digits) w h
+bits_cut Decimal digits w h = elim (cases_Bool (is_unknown_at digits)) [
+  | inl unknown ↦ rw unknown (take-replicate w 128 (fill_of digits) h)
+  | inr known ↦ rw known (tabulate-cut (λ i. digit (bit_is (decimal_value digits) i)) w 128 h)
+]
+bits_cut Hex digits w h = cut_spelled Hex digits (fill_of digits) w h
 
 pub next_digits : (base : Base) (byte : ℕ) (rest text : List ℕ) (bits next : List Bit) → text ≡ byte ∷ rest
     → next ≡ with_digit base byte bits → with_digits base text bits ≡ with_digits base rest next
@@ -93,28 +111,27 @@ no_digits base text bits e = rw e refl
 
 -- ---- values
 
-pub value_spelled : (base : Base) (w : ℕ) (s : Bool) (digits : List ℕ) → is_decimal base ≡ false
-    → value_at base w s digits ≡ Ok (record { bits = bits_at base w digits; signed = s })
+pub value_spelled : (base : Base) (digits : List ℕ) → is_decimal base ≡ false → value_at base digits ≡ Ok (bits_at base 128 digits)
 unfolding value_at is_too_large
-value_spelled Binary w s digits h = refl
-value_spelled Octal w s digits h = refl
-value_spelled Decimal w s digits h = absurd cc
-value_spelled Hex w s digits h = refl
+value_spelled Binary digits h = refl
+value_spelled Octal digits h = refl
+value_spelled Decimal digits h = absurd cc
+value_spelled Hex digits h = refl
 
-pub value_unknown : (w : ℕ) (s : Bool) (digits : List ℕ) → is_unknown_at digits ≡ true
-    → value_at Decimal w s digits ≡ Ok (record { bits = replicate w (fill_of digits); signed = s })
+pub value_unknown : (digits : List ℕ) → is_unknown_at digits ≡ true
+    → value_at Decimal digits ≡ Ok (replicate 128 (fill_of digits))
 unfolding value_at is_too_large bits_at
-value_unknown w s digits h = rw h refl
+value_unknown digits h = rw h refl
 
-pub value_large : (w : ℕ) (s : Bool) (digits : List ℕ) → is_unknown_at digits ≡ false → 2 ^ 128 ≤ decimal_value digits
-    → value_at Decimal w s digits ≡ Err BadNumber
+pub value_large : (digits : List ℕ) → is_unknown_at digits ≡ false → 2 ^ 128 ≤ decimal_value digits
+    → value_at Decimal digits ≡ Err BadNumber
 unfolding value_at is_too_large
-value_large w s digits h k = rw (h, le-leb (2 ^ 128) (decimal_value digits) k) refl
+value_large digits h k = rw (h, le-leb (2 ^ 128) (decimal_value digits) k) refl
 
-pub value_known : (w : ℕ) (s : Bool) (digits : List ℕ) → is_unknown_at digits ≡ false → decimal_value digits < 2 ^ 128
-    → value_at Decimal w s digits ≡ Ok (record { bits = digits_of w (decimal_value digits); signed = s })
+pub value_known : (digits : List ℕ) → is_unknown_at digits ≡ false → decimal_value digits < 2 ^ 128
+    → value_at Decimal digits ≡ Ok (digits_of 128 (decimal_value digits))
 unfolding value_at is_too_large bits_at
-value_known w s digits h k = rw (h, lt-leb (2 ^ 128) (decimal_value digits) k) refl
+value_known digits h k = rw (h, lt-leb (2 ^ 128) (decimal_value digits) k) refl
 
 pub are_digits : (base : Base) (text : List ℕ) → AreDigits base (run (is_byte_of base) text)
 are_digits Binary text = run_all (is_byte_of Binary) text

@@ -1,8 +1,9 @@
 -- Numbers: what is read is what the definition says, and no other.
-use Rattle.std.proofs.Common.{◌≡◌, ℕ, ◌<◌, ◌≤◌, ◌^◌, ◌==◌, ◌&&◌, ◌||◌, Bool, true, false, not, eqb, List, [], ◌∷◌, ◌++◌, length, Option, Some, None, Result, Ok, Err, refl, sym, ap, ◌∙◌, inl, inr, subst, arith}
+use Rattle.std.proofs.Common.{◌≡◌, ℕ, ◌<◌, ◌≤◌, ◌^◌, ◌==◌, ◌&&◌, ◌||◌, Bool, true, false, not, eqb, List, [], ◌∷◌, ◌++◌, length, take, Option, Some, None, Result, Ok, Err, refl, sym, ap, ◌∙◌, inl, inr, subst, arith}
 use Rattle.std.specs.List.{list_all}
 use Rattle.std.specs.Result.{IfOk, IfErr}
 use Rattle.std.proofs.lemmas.Bool.{cases_Bool, cases_lt, and_parts, and_from, or_cases, or_left, eqb-true, eqb-false, both_ways, lt-ltb, le-ltb, or_parts, not-true}
+use Rattle.vf_fours.specs.declared.Bit.{Bit}
 use Rattle.vf_fours.specs.Bits.{FourState}
 use Rattle.vf_fours.specs.Numbers.{digits_of}
 use Rattle.vf_number.specs.declared.bases.Base.{Base}
@@ -14,7 +15,7 @@ use Rattle.vf_number.specs.Numbers.{is_underscore, is_decimal_byte, IsUnsigned, 
 use Rattle.vf_number.specs.Runs.{run, behind}
 use Rattle.vf_number.specs.Reading.{Shows, is_decimal, mark_at, seen_base, base_at, digits_at, width_at, value_at, based_at, plain_at, number_by, number_at}
 use Rattle.vf_number.proofs.RunLemmas.{run_parts, run_all, behind_ends, run_of, behind_of}
-use Rattle.vf_number.proofs.Digits.{is_decimal_base}
+use Rattle.vf_number.proofs.Digits.{is_decimal_base, bits_cut}
 use Rattle.vf_number.proofs.Taking.{behind_shorter, number_takes}
 
 -- ---- classes
@@ -279,35 +280,52 @@ based_from text seen letter blanks b digits rest (no_mark e) more h all d =
 
 -- ---- a based number
 
-value_fits : (b : Base) (n : ℕ) (s : Bool) (digits : List ℕ) → is_too_large b digits ≡ false
-    → value_at b n s digits ≡ Ok (record { bits = bits_at b n digits; signed = s })
+value_fits : (b : Base) (digits : List ℕ) → is_too_large b digits ≡ false → value_at b digits ≡ Ok (bits_at b 128 digits)
 unfolding value_at
-value_fits b n s digits h = rw h refl
+value_fits b digits h = rw h refl
 
-value_too_large : (b : Base) (n : ℕ) (s : Bool) (digits : List ℕ) → is_too_large b digits ≡ true
-    → value_at b n s digits ≡ Err BadNumber
+value_too_large : (b : Base) (digits : List ℕ) → is_too_large b digits ≡ true → value_at b digits ≡ Err BadNumber
 unfolding value_at
-value_too_large b n s digits h = rw h refl
+value_too_large b digits h = rw h refl
 
-seen_value : (size more digits rest behind_base : List ℕ) (b : Base) (n : ℕ) (v : FourState)
+seen_value : (size more digits rest behind_base : List ℕ) (b : Base) (n : ℕ) (bits : List Bit)
     → base_at (mark_at more).1 ≡ Ok (b, behind_base)
-    → digits_at b (behind is_blank behind_base) ≡ Ok (digits, rest) → width_at size ≡ Ok n
-    → value_at b n (mark_at more).0 digits ≡ Ok v → based_at size more ≡ Ok (v, rest)
+    → digits_at b (behind is_blank behind_base) ≡ Ok (digits, rest) → value_at b digits ≡ Ok bits → width_at size ≡ Ok n
+    → based_at size more ≡ Ok (record { bits = take n bits; signed = (mark_at more).0 }, rest)
 unfolding based_at
-seen_value size more digits rest behind_base b n v e d w o = rw (e, d, w, o) refl
+seen_value size more digits rest behind_base b n bits e d v w = rw (e, d, v, w) refl
 
-seen_no_value : (size more digits rest behind_base : List ℕ) (b : Base) (n : ℕ) (fault : NumberFault)
+seen_no_width : (size more digits rest behind_base : List ℕ) (b : Base) (bits : List Bit) (fault : NumberFault)
     → base_at (mark_at more).1 ≡ Ok (b, behind_base)
-    → digits_at b (behind is_blank behind_base) ≡ Ok (digits, rest) → width_at size ≡ Ok n
-    → value_at b n (mark_at more).0 digits ≡ Err fault → based_at size more ≡ Err fault
+    → digits_at b (behind is_blank behind_base) ≡ Ok (digits, rest) → value_at b digits ≡ Ok bits → width_at size ≡ Err fault
+    → based_at size more ≡ Err fault
 unfolding based_at
-seen_no_value size more digits rest behind_base b n fault e d w o = rw (e, d, w, o) refl
+seen_no_width size more digits rest behind_base b bits fault e d v w = rw (e, d, v, w) refl
 
-seen_no_width : (size more digits rest behind_base : List ℕ) (b : Base) (fault : NumberFault)
+seen_no_value : (size more digits rest behind_base : List ℕ) (b : Base) (fault : NumberFault)
     → base_at (mark_at more).1 ≡ Ok (b, behind_base)
-    → digits_at b (behind is_blank behind_base) ≡ Ok (digits, rest) → width_at size ≡ Err fault → based_at size more ≡ Err fault
+    → digits_at b (behind is_blank behind_base) ≡ Ok (digits, rest) → value_at b digits ≡ Err fault
+    → based_at size more ≡ Err fault
 unfolding based_at
-seen_no_width size more digits rest behind_base b fault e d w = rw (e, d, w) refl
+seen_no_value size more digits rest behind_base b fault e d v = rw (e, d, v) refl
+
+-- a size of 0 is wrong whatever the digits are
+seen_no_bits : (size more digits rest behind_base : List ℕ) (b : Base) → base_at (mark_at more).1 ≡ Ok (b, behind_base)
+    → digits_at b (behind is_blank behind_base) ≡ Ok (digits, rest) → width_at size ≡ Err BadNumber
+    → based_at size more ≡ Err BadNumber
+seen_no_bits size more digits rest behind_base b e d w = elim (cases_Bool (is_too_large b digits)) [
+  | inl large ↦ seen_no_value size more digits rest behind_base b BadNumber e d (value_too_large b digits large)
+  | inr small ↦ seen_no_width size more digits rest behind_base b (bits_at b 128 digits) BadNumber e d (value_fits b digits small) w
+]
+
+-- what the fitting size and value of a number give
+seen_number : (size more digits rest behind_base : List ℕ) (b : Base) (n : ℕ)
+    → base_at (mark_at more).1 ≡ Ok (b, behind_base)
+    → digits_at b (behind is_blank behind_base) ≡ Ok (digits, rest) → is_too_large b digits ≡ false → width_at size ≡ Ok n
+    → n ≤ 128 → based_at size more ≡ Ok (record { bits = bits_at b n digits; signed = (mark_at more).0 }, rest)
+seen_number size more digits rest behind_base b n e d small w most =
+    seen_value size more digits rest behind_base b n (bits_at b 128 digits) e d (value_fits b digits small) w
+    ∙ ap (λ (bits : List Bit). Ok (record { bits = bits; signed = (mark_at more).0 }, rest)) (bits_cut b digits n most)
 
 seen_no_digits : (size more behind_base : List ℕ) (b : Base) (fault : NumberFault) → base_at (mark_at more).1 ≡ Ok (b, behind_base)
     → digits_at b (behind is_blank behind_base) ≡ Err fault → based_at size more ≡ Err fault
@@ -347,18 +365,16 @@ based_value : (text size more digits rest behind_base : List ℕ) (b : Base) →
     → IsNumber text (based_at size more)
 based_value text size more digits rest behind_base b sized_is is e d =
     let s = (mark_at more).0 in
-    elim (width_is size) [
-      | no_width z w ↦ no_bits (size_of size) s b more digits rest sized_is is z
-          (seen_no_width size more digits rest behind_base b BadNumber e d w)
-      | wide large w ↦ too_wide (size_of size) s b more digits rest sized_is is large
-          (seen_no_width size more digits rest behind_base b TooWide e d w)
-      | fits some most w ↦ elim (cases_Bool (is_too_large b digits)) [
-        | inl large ↦ too_large (size_of size) s b more digits rest sized_is is some most large
-            (seen_no_value size more digits rest behind_base b (width_of (size_of size)) BadNumber e d w
-            (value_too_large b (width_of (size_of size)) s digits large))
-        | inr small ↦ based (size_of size) s b more digits rest sized_is is some most small
-            (seen_value size more digits rest behind_base b (width_of (size_of size)) _ e d w
-            (value_fits b (width_of (size_of size)) s digits small))
+    elim (cases_Bool (is_too_large b digits)) [
+      | inl large ↦ too_large (size_of size) s b more digits rest sized_is is large
+          (seen_no_value size more digits rest behind_base b BadNumber e d (value_too_large b digits large))
+      | inr small ↦ elim (width_is size) [
+        | no_width z w ↦ no_bits (size_of size) s b more digits rest sized_is is z
+            (seen_no_width size more digits rest behind_base b (bits_at b 128 digits) BadNumber e d (value_fits b digits small) w)
+        | wide large w ↦ too_wide (size_of size) s b more digits rest sized_is is small large
+            (seen_no_width size more digits rest behind_base b (bits_at b 128 digits) TooWide e d (value_fits b digits small) w)
+        | fits some most w ↦ based (size_of size) s b more digits rest sized_is is some most small
+            (seen_number size more digits rest behind_base b (width_of (size_of size)) e d small w most)
       ]
     ]
 
@@ -552,29 +568,27 @@ number_complete text seen (plain_too_large digits rest is ends h e large s) = pl
 number_complete text seen (based size signed b more digits rest z is some most small s) =
     let p = sized_complete text size more z in
     let shape = shape_complete more signed b digits rest is in
-    p.1 ∙ seen_value p.0 more digits rest shape.behind_base b (width_of size) _ shape.base_read shape.digits_read
-    (width_fits size p.0 p.2 some most)
-    (value_fits b (width_of size) (mark_at more).0 digits small
-    ∙ ap (λ (x : Bool). Ok (record { bits = bits_at b (width_of size) digits; signed = x })) shape.mark) ∙ sym s
+    p.1 ∙ seen_number p.0 more digits rest shape.behind_base b (width_of size) shape.base_read shape.digits_read small
+    (width_fits size p.0 p.2 some most) most
+    ∙ ap (λ (x : Bool). Ok (record { bits = bits_at b (width_of size) digits; signed = x }, rest)) shape.mark ∙ sym s
 number_complete text seen (no_digits size more z none s) =
     let p = sized_complete text size more z in
     p.1 ∙ no_shape p.0 more none ∙ sym s
 number_complete text seen (no_bits size signed b more digits rest z is w s) =
     let p = sized_complete text size more z in
     let shape = shape_complete more signed b digits rest is in
-    p.1 ∙ seen_no_width p.0 more digits rest shape.behind_base b BadNumber shape.base_read shape.digits_read
-    (width_none size p.0 p.2 w) ∙ sym s
-number_complete text seen (too_wide size signed b more digits rest z is w s) =
+    p.1 ∙ seen_no_bits p.0 more digits rest shape.behind_base b shape.base_read shape.digits_read (width_none size p.0 p.2 w)
+    ∙ sym s
+number_complete text seen (too_large size signed b more digits rest z is large s) =
     let p = sized_complete text size more z in
     let shape = shape_complete more signed b digits rest is in
-    p.1 ∙ seen_no_width p.0 more digits rest shape.behind_base b TooWide shape.base_read shape.digits_read
-    (width_wide size p.0 p.2 w) ∙ sym s
-number_complete text seen (too_large size signed b more digits rest z is some most large s) =
+    p.1 ∙ seen_no_value p.0 more digits rest shape.behind_base b BadNumber shape.base_read shape.digits_read
+    (value_too_large b digits large) ∙ sym s
+number_complete text seen (too_wide size signed b more digits rest z is small w s) =
     let p = sized_complete text size more z in
     let shape = shape_complete more signed b digits rest is in
-    p.1 ∙ seen_no_value p.0 more digits rest shape.behind_base b (width_of size) BadNumber shape.base_read shape.digits_read
-    (width_fits size p.0 p.2 some most)
-    (value_too_large b (width_of size) (mark_at more).0 digits large) ∙ sym s
+    p.1 ∙ seen_no_width p.0 more digits rest shape.behind_base b (bits_at b 128 digits) TooWide shape.base_read shape.digits_read
+    (value_fits b digits small) (width_wide size p.0 p.2 w) ∙ sym s
 
 pub numbers_once : (text : List ℕ) (seen other : Read) → IsNumber text seen → IsNumber text other → seen ≡ other
 numbers_once text seen other a b = sym (number_complete text seen a) ∙ number_complete text other b
@@ -595,8 +609,8 @@ number_begins text seen (plain_too_large digits rest is ends h e large s) = unsi
 number_begins text seen (based size signed b more digits rest z is some most small s) = sized_begins text size more z
 number_begins text seen (no_digits size more z none s) = sized_begins text size more z
 number_begins text seen (no_bits size signed b more digits rest z is w s) = sized_begins text size more z
-number_begins text seen (too_wide size signed b more digits rest z is w s) = sized_begins text size more z
-number_begins text seen (too_large size signed b more digits rest z is some most large s) = sized_begins text size more z
+number_begins text seen (too_large size signed b more digits rest z is large s) = sized_begins text size more z
+number_begins text seen (too_wide size signed b more digits rest z is small w s) = sized_begins text size more z
 
 -- ---- what the code answers
 

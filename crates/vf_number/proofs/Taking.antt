@@ -53,5 +53,5 @@ number_takes text seen (based size signed b more digits rest z is some most smal
     rw s (behind_trans text more rest (sized_takes text size more z) (based_takes more signed b digits rest is))
 number_takes text seen (no_digits size more z wrong s) = rw s tt
 number_takes text seen (no_bits size signed b more digits rest z is w s) = rw s tt
-number_takes text seen (too_wide size signed b more digits rest z is w s) = rw s tt
-number_takes text seen (too_large size signed b more digits rest z is some most large s) = rw s tt
+number_takes text seen (too_large size signed b more digits rest z is large s) = rw s tt
+number_takes text seen (too_wide size signed b more digits rest z is small w s) = rw s tt

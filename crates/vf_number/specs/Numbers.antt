@@ -164,11 +164,11 @@ pub data IsNumber (text : List ℕ) (seen : Read) : Type 0 where
       → seen ≡ Err BadNumber → IsNumber text seen
   no_bits : (size : Option ℕ) (signed : Bool) (base : Base) (behind digits rest : List ℕ) → IsSized text size behind
       → IsBased behind signed base digits rest → width_of size ≡ 0 → seen ≡ Err BadNumber → IsNumber text seen
-  too_wide : (size : Option ℕ) (signed : Bool) (base : Base) (behind digits rest : List ℕ) → IsSized text size behind
-      → IsBased behind signed base digits rest → 128 < width_of size → seen ≡ Err TooWide → IsNumber text seen
   too_large : (size : Option ℕ) (signed : Bool) (base : Base) (behind digits rest : List ℕ) → IsSized text size behind
-      → IsBased behind signed base digits rest → 1 ≤ width_of size → width_of size ≤ 128 → is_too_large base digits ≡ true
-      → seen ≡ Err BadNumber → IsNumber text seen
+      → IsBased behind signed base digits rest → is_too_large base digits ≡ true → seen ≡ Err BadNumber → IsNumber text seen
+  too_wide : (size : Option ℕ) (signed : Bool) (base : Base) (behind digits rest : List ℕ) → IsSized text size behind
+      → IsBased behind signed base digits rest → is_too_large base digits ≡ false → 128 < width_of size → seen ≡ Err TooWide
+      → IsNumber text seen
 
 -- a number begins with a digit or with the `'` of a based one
 abbrev pub begins_number : ℕ → Bool

@@ -91,18 +91,22 @@ digits_at base (first ∷ rest) =
     if is_digit_of base first then Ok (run (is_byte_of base) (first ∷ rest), behind (is_byte_of base) (first ∷ rest)) else
     if is_decimal base && is_unknown first then Ok (first ∷ run is_underscore rest, behind is_underscore rest) else Err BadNumber
 
-unfoldable pub value_at : Base → ℕ → Bool → List ℕ → Result FourState NumberFault
-value_at base width signed digits =
-    if is_too_large base digits then Err BadNumber else Ok (record { bits = bits_at base width digits; signed = signed })
+-- the low 128 bits of digits
+unfoldable pub value_at : Base → List ℕ → Result (List Bit) NumberFault
+value_at base digits = if is_too_large base digits then Err BadNumber else Ok (bits_at base 128 digits)
+
+-- the low bits of a value
+abbrev pub cut : FourState → ℕ → Bool → FourState
+cut value width signed = record { bits = take width value.bits; signed = signed }
 
 -- the number of a size, or of none, and of what follows its `'`
 unfoldable pub based_at : List ℕ → List ℕ → Read
 based_at size text = do
   base ← base_at (mark_at text).1
   digits ← digits_at base.0 (behind is_blank base.1)
+  bits ← value_at base.0 digits.0
   width ← width_at size
-  value ← value_at base.0 width (mark_at text).0 digits.0
-  Ok (value, digits.1)
+  Ok (record { bits = take width bits; signed = (mark_at text).0 }, digits.1)
 
 unfoldable pub plain_at : List ℕ → List ℕ → Read
 plain_at digits rest =

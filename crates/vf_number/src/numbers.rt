@@ -6,7 +6,7 @@ ghost use Rattle.std.specs.List.{list_all};
 ghost use Rattle.vf_fours.specs.Numbers.{digits_of};
 ghost use Rattle.vf_number.specs.declared.bases.Base.TheVariants.{Hex, Decimal};
 ghost use Rattle.vf_number.specs.Numbers.{is_decimal_byte, is_byte_of, is_digit_of, is_unknown, base_of, fill_of, is_unknown_at, digit_width, digit_bits, decimal_value, bits_at, IsNumber, BeginsNumber};
-ghost use Rattle.vf_number.specs.Reading.{Shows, AreDigits, is_decimal, below, appended, with_digit, width_at, mark_at, base_at, digits_at, value_at, based_at, plain_at, number_by, number_at};
+ghost use Rattle.vf_number.specs.Reading.{Shows, AreDigits, is_decimal, below, appended, with_digit, width_at, mark_at, base_at, digits_at, value_at, cut, based_at, plain_at, number_by, number_at};
 
 use crate::bases::Base;
 use crate::classes::{Class, is_digit_of, is_unknown, is_x, is_z};
@@ -75,18 +75,30 @@ fn width(size: &[u8]) -> Result<u32, NumberFault>
 fn known(width: u32, signed: bool, number: u128) -> Fours
     requires some { 1 ≤ width }
     requires most { width ≤ 128 }
-    ensures { result ≡ record { bits = digits_of width number; signed = signed } }
+    ensures value { result ≡ record { bits = digits_of width number; signed = signed } }
+    ensures width { length result.bits ≡ width }
 {
     Fours::new(WIDEST, false, number, 0).resize(width, signed)
 }
 
 /// The same bit at every place.
-fn filled(width: u32, signed: bool, bit: Bit) -> Fours
+fn filled(width: u32, bit: Bit) -> Fours
     requires some { 1 ≤ width }
     requires most { width ≤ 128 }
-    ensures { result ≡ record { bits = replicate width bit; signed = signed } }
+    ensures value { result ≡ record { bits = replicate width bit; signed = false } }
+    ensures width { length result.bits ≡ width }
 {
-    Fours::of_bit(bit).resize(1, true).resize(width, signed)
+    Fours::of_bit(bit).resize(1, true).resize(width, false)
+}
+
+/// The low bits of a value of 128 bits.
+fn cut(value: Fours, width: u32, signed: bool) -> Fours
+    requires value { length value.bits ≡ 128 }
+    requires some { 1 ≤ width }
+    requires most { width ≤ 128 }
+    ensures { result ≡ cut value width signed }
+{
+    value.resize(width, signed)
 }
 
 /// What fills a number above its leftmost digit.
@@ -165,10 +177,10 @@ fn digit(base: Base, byte: u8) -> Fours
 {
     let width = digit_width(base);
     if is_x(byte) {
-        return filled(width, false, Bit::X);
+        return filled(width, Bit::X);
     }
     if is_z(byte) {
-        return filled(width, false, Bit::Z);
+        return filled(width, Bit::Z);
     }
     known(width, false, u128::from(digit_value(byte)))
 }
@@ -189,50 +201,47 @@ fn with_digit(base: Base, value: Fours, byte: u8) -> Fours
         .concat(digit(base, byte))
 }
 
-/// The bits of digits that are not decimal, at a width.
-fn spelled(base: Base, width: u32, signed: bool, digits: &[u8]) -> Fours
+/// The low 128 bits of digits that are not decimal.
+fn spelled(base: Base, digits: &[u8]) -> Fours
     requires base { is_decimal base ≡ false }
     requires digits { list_all (is_byte_of base) digits.now ≡ true }
-    requires some { 1 ≤ width }
-    requires most { width ≤ 128 }
-    ensures { result ≡ record { bits = bits_at base width digits.now; signed = signed } }
+    ensures bits { result.bits ≡ bits_at base 128 digits.now }
+    ensures width { length result.bits ≡ 128 }
 {
-    let mut value = filled(WIDEST, false, fill(digits));
+    let mut value = filled(WIDEST, fill(digits));
     let mut rest = digits;
     while let Some((byte, after)) = rest.split_first() {
         value = with_digit(base, value, *byte);
         rest = after;
     }
-    value.resize(width, signed)
+    value
 }
 
-/// The bits of decimal digits, or of one that is not known, at a width.
-fn decimal_value(width: u32, signed: bool, digits: &[u8]) -> Result<Fours, NumberFault>
-    requires digits { is_unknown_at digits.now ≡ false → list_all is_decimal_byte digits.now ≡ true }
-    requires some { 1 ≤ width }
-    requires most { width ≤ 128 }
-    ensures { Shows (λ value. value) result (value_at Decimal width signed digits.now) }
+/// The low 128 bits of decimal digits, or of one that is not known.
+fn decimal_value(digits: &[u8]) -> Result<Fours, NumberFault>
+    requires { is_unknown_at digits.now ≡ false → list_all is_decimal_byte digits.now ≡ true }
+    ensures value { Shows (λ value. value.bits) result (value_at Decimal digits.now) }
+    ensures width { IfOk result (λ value. length value.bits ≡ 128) }
 {
     if is_unknown_at(digits) {
-        return Ok(filled(width, signed, fill(digits)));
+        return Ok(filled(WIDEST, fill(digits)));
     }
     let Some(number) = decimal(digits) else {
         return Err(NumberFault::BadNumber);
     };
-    Ok(known(width, signed, number))
+    Ok(known(WIDEST, false, number))
 }
 
-/// The value of a based number.
-fn value(base: Base, width: u32, signed: bool, digits: &[u8]) -> Result<Fours, NumberFault>
-    requires digits { AreDigits base digits.now }
-    requires some { 1 ≤ width }
-    requires most { width ≤ 128 }
-    ensures { Shows (λ value. value) result (value_at base width signed digits.now) }
+/// The low 128 bits of the digits of a based number.
+fn value(base: Base, digits: &[u8]) -> Result<Fours, NumberFault>
+    requires { AreDigits base digits.now }
+    ensures value { Shows (λ value. value.bits) result (value_at base digits.now) }
+    ensures width { IfOk result (λ value. length value.bits ≡ 128) }
 {
     if is_decimal(base) {
-        return decimal_value(width, signed, digits);
+        return decimal_value(digits);
     }
-    Ok(spelled(base, width, signed, digits))
+    Ok(spelled(base, digits))
 }
 
 // ---- shape
@@ -316,9 +325,9 @@ fn based<'a>(size: &[u8], text: &'a [u8]) -> Result<(Fours, &'a [u8]), NumberFau
     let (base, text) = base(text)?;
     let (_, text) = Class::Blank.split(text);
     let (digits, rest) = digits(base, text)?;
+    let value = value(base, digits)?;
     let width = width(size)?;
-    let value = value(base, width, signed, digits)?;
-    Ok((value, rest))
+    Ok((cut(value, width, signed), rest))
 }
 
 /// A plain number: 32 bits, signed.

@@ -56,7 +56,7 @@ fn large_numbers() -> [Row; 13] {
 }
 
 #[rattlefmt::skip]
-fn faults() -> [(&'static str, NumberFault); 18] {
+fn faults() -> [(&'static str, NumberFault); 21] {
     [
         ("4294967296", NumberFault::BadNumber),
         ("4 \n' b10", NumberFault::BadNumber),
@@ -67,7 +67,10 @@ fn faults() -> [(&'static str, NumberFault); 18] {
         ("129'h1", NumberFault::TooWide),
         ("4294967296'h1", NumberFault::TooWide),
         ("999999999999999999999999999999999999999999'h1", NumberFault::TooWide),
-        ("129'd999999999999999999999999999999999999999999", NumberFault::TooWide),
+        ("129'd340282366920938463463374607431768211455", NumberFault::TooWide),
+        ("129'd340282366920938463463374607431768211456", NumberFault::BadNumber),
+        ("99999'sD9999999999999999999999999999999999999999", NumberFault::BadNumber),
+        ("129'dx", NumberFault::TooWide),
         ("129'q", NumberFault::BadNumber),
         ("8'h_f", NumberFault::BadNumber),
         ("8'b2", NumberFault::BadNumber),

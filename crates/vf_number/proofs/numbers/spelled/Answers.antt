@@ -1,11 +1,9 @@
-use Rattle.std.proofs.Common.{◌≡◌, List, ◌∷◌, true, take, replicate, ap, sym, ◌∙◌, arith}
+use Rattle.std.proofs.Common.{◌≡◌, ◌∷◌, true, take, replicate, ap, sym, ◌∙◌, arith}
 use Rattle.std.specs.List.{list_all}
 use Rattle.std.proofs.lemmas.Bool.{and_parts}
-use Rattle.std.proofs.lemmas.List.{nil_from_length}
-use Rattle.vf_fours.specs.declared.Bit.{Bit}
+use Rattle.std.proofs.lemmas.List.{nil_from_length, take_all}
 use Rattle.vf_number.specs.Numbers.{is_byte_of, fill_of}
 use Rattle.vf_number.specs.Reading.{with_digits}
-use Rattle.vf_number.proofs.BitLists.{cut_is}
 use Rattle.vf_number.proofs.Digits.{bits_are, next_digits, no_digits}
 use Rattle.vf_number.proofs.numbers.spelled.Goals as goal
 
@@ -23,15 +21,13 @@ loop-byte-preserved c =
           ∙ c.loop-byte.invariant.2,
     )
 
-pub returns : goal.returns
-returns c =
+pub returns-clause-bits : goal.returns-clause-bits
+returns-clause-bits c =
     let base = c.args.base in
-    let w = c.args.width in
     let digits = c.args.digits.now in
     let value = c.loop-byte.value in
     let bits : value.bits ≡ with_digits base digits (replicate 128 (fill_of digits))
     = sym (no_digits base c.loop-byte.rest.now value.bits (nil_from_length _ c.in_default.ensures.cases))
     ∙ c.loop-byte.invariant.2 in
-    let cut = ap (take w) bits ∙ bits_are base digits w c.requires.base c.requires.most in
-    c.resize.ensures.value ∙ cut_is value w c.args.signed (omega (arith, c.requires.most, c.loop-byte.invariant.1))
-    ∙ ap (λ (b : List Bit). record { bits = b; signed = c.args.signed }) cut
+    sym (take_all 128 value.bits (omega (arith, c.loop-byte.invariant.1))) ∙ ap (take 128) bits
+    ∙ bits_are base digits c.requires.base
