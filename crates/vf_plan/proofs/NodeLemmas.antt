@@ -14,9 +14,9 @@ use Rattle.vf_plan.specs.declared.fault.PlanKind.TheVariants as kinds
 use Rattle.vf_plan.specs.declared.plan.Node.{Node}
 use Rattle.vf_plan.specs.Paths.{path_to}
 use Rattle.vf_plan.specs.Form as form
-use Rattle.vf_plan.specs.Form.{Texts, Marks, texts_of, truth_in, has_limits, limits_in, marks_of, whole_in, in_range, segment_text, is_name, is_lawful, is_one, if_formed, form_of, has_members, known_keys}
+use Rattle.vf_plan.specs.Form.{Texts, Marks, texts_of, truth_in, has_limits, limits_in, marks_of, whole_in, in_range, segment_text, is_name, is_lawful, is_one, if_formed, form_of, has_only, keys_of_node}
 use Rattle.vf_plan.specs.Reading.{◌>>=◌, decoded, segment_of, expect_of, node_named, parent_at, parent_of, placed, is_long, bounded, node_from, node_after}
-use Rattle.vf_plan.specs.Rules.{IsNodeBehind}
+use Rattle.vf_plan.specs.Rules.{IsNodeAfter}
 
 -- ---- steps that succeeded
 
@@ -97,8 +97,8 @@ unfolding form_of
 formed version value got h =
     let a = bind_some (texts_of value) _ got h in
     let b = bind_some (marks_of version value) _ got a.2 in
-    let c = checked (has_members (known_keys (has_limits version b.0.test) value) value && is_lawful a.0) (a.0, b.0) got b.2 in
-    let lawful = (and_parts (has_members (known_keys (has_limits version b.0.test) value) value) (is_lawful a.0) c.0).1 in
+    let c = checked (has_only (keys_of_node (has_limits version b.0.test)) value && is_lawful a.0) (a.0, b.0) got b.2 in
+    let lawful = (and_parts (has_only (keys_of_node (has_limits version b.0.test)) value) (is_lawful a.0) c.0).1 in
     let name = and_parts (is_name a.0.name) _ lawful in
     let one = and_parts (is_one a.0.text a.0.hex) _ name.1 in
     let rest = and_parts (form.at_most_one a.0.expect_text a.0.expect) _ one.1 in
@@ -175,14 +175,14 @@ is_bounded before node got h =
 
 -- ---- the node
 
-behind : (before : List Node) (texts : Texts) (marks : Marks) (node : Node) → IsFormed texts marks → node_from before (Some (texts, marks)) ≡ Ok node → IsNodeBehind before node
+behind : (before : List Node) (texts : Texts) (marks : Marks) (node : Node) → IsFormed texts marks → node_from before (Some (texts, marks)) ≡ Ok node → IsNodeAfter before node
 behind before texts marks node is h =
     let s = bind_ok (segment_of texts.text texts.hex) _ node h in
     let e = bind_ok (expect_of texts.expect_text texts.expect) _ node s.2 in
     let p = bind_ok (placed before texts.name texts.after) _ node e.2 in
     let place = is_placed before texts.name texts.after p.0 p.1 in
     let b = is_bounded before _ node p.2 in
-    subst (IsNodeBehind before) b.0 (record {
+    subst (IsNodeAfter before) b.0 (record {
       name = is.name;
       new = place.new;
       parent = place.within;
@@ -199,10 +199,10 @@ behind before texts marks node is h =
     grown None f p = tt
     grown (Some name) f p = f p
 
-pub node_after_is_behind : (version : ℕ) (before : List Node) (value : Data) (node : Node) → node_after version before value ≡ Ok node → IsNodeBehind before node
+pub node_after_is_behind : (version : ℕ) (before : List Node) (value : Data) (node : Node) → node_after version before value ≡ Ok node → IsNodeAfter before node
 unfolding node_after
 node_after_is_behind version before value node h = by (form_of version value) refl h
   where
-    by : (r : Option (Texts × Marks)) → form_of version value ≡ r → node_from before r ≡ Ok node → IsNodeBehind before node
+    by : (r : Option (Texts × Marks)) → form_of version value ≡ r → node_from before r ≡ Ok node → IsNodeAfter before node
     by (Some got) e g = behind before got.0 got.1 node (formed version value got e) g
     by None e g = cc

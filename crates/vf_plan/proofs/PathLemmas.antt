@@ -4,25 +4,25 @@ use Rattle.std.proofs.lemmas.List.{get_or_append_left, get_or_push, get_or_past}
 use Rattle.vf_base.specs.declared.names.NodeNo.{NodeNo}
 use Rattle.vf_plan.specs.declared.plan.Node.{Node}
 use Rattle.vf_plan.specs.declared.plan.PathSize.{PathSize}
-use Rattle.vf_plan.specs.Paths.{at_parent, grown_behind, grown, path_sizes, path_to, longer, no_path, joined, with_segment, path, with_number}
+use Rattle.vf_plan.specs.Paths.{at_parent, grown_after, grown, path_sizes, path_to, longer, no_path, joined, with_segment, path, with_number}
 
 module _ {A : Type 0} (grow : A → ℕ → Node → A) (start : A) where
-  grown_behind-append : (done : List A) (front back : List Node) → grown_behind grow start done (front ++ back) ≡ grown_behind grow start (grown_behind grow start done front) back
-  unfolding grown_behind
-  grown_behind-append done [] back = refl
-  grown_behind-append done (node ∷ front) back = grown_behind-append (done ++ grow (at_parent start done node.parent) (length done) node ∷ []) front back
+  grown_after-append : (done : List A) (front back : List Node) → grown_after grow start done (front ++ back) ≡ grown_after grow start (grown_after grow start done front) back
+  unfolding grown_after
+  grown_after-append done [] back = refl
+  grown_after-append done (node ∷ front) back = grown_after-append (done ++ grow (at_parent start done node.parent) (length done) node ∷ []) front back
 
-  length-grown_behind : (done : List A) (nodes : List Node) → length (grown_behind grow start done nodes) ≡ length done + length nodes
-  unfolding grown_behind
-  length-grown_behind done [] = omega arith
-  length-grown_behind done (node ∷ more) =
-      let rest = length-grown_behind (done ++ grow (at_parent start done node.parent) (length done) node ∷ []) more in
+  length-grown_after : (done : List A) (nodes : List Node) → length (grown_after grow start done nodes) ≡ length done + length nodes
+  unfolding grown_after
+  length-grown_after done [] = omega arith
+  length-grown_after done (node ∷ more) =
+      let rest = length-grown_after (done ++ grow (at_parent start done node.parent) (length done) node ∷ []) more in
       let here = length-append done (grow (at_parent start done node.parent) (length done) node ∷ []) in
       omega (arith, rest, here)
 
   -- what stands is kept
-  keeps : (done : List A) (nodes : List Node) (n : ℕ) → n < length done → get_or (grown_behind grow start done nodes) n start ≡ get_or done n start
-  unfolding grown_behind
+  keeps : (done : List A) (nodes : List Node) (n : ℕ) → n < length done → get_or (grown_after grow start done nodes) n start ≡ get_or done n start
+  unfolding grown_after
   keeps done [] n h = refl
   keeps done (node ∷ more) n h =
       let x = grow (at_parent start done node.parent) (length done) node in
@@ -30,17 +30,17 @@ module _ {A : Type 0} (grow : A → ℕ → Node → A) (start : A) where
       keeps (done ++ x ∷ []) more n (omega (arith, long, h)) ∙ get_or_append_left done (x ∷ []) start n h
 
   keeps_parent : (done : List A) (nodes : List Node) (parent : Option NodeNo) → IfSome parent (λ p. p.0 < length done)
-      → at_parent start (grown_behind grow start done nodes) parent ≡ at_parent start done parent
+      → at_parent start (grown_after grow start done nodes) parent ≡ at_parent start done parent
   keeps_parent done nodes None h = refl
   keeps_parent done nodes (Some p) h = keeps done nodes p.0 h
 
   -- each node has what grows out of its parent's
-  grown_behind-at : (done : List A) (nodes : List Node) (n at : ℕ) (node : Node) → at ≡ length done + n → slice_get nodes n ≡ Some node → IfSome node.parent (λ p. p.0 < at)
-      → get_or (grown_behind grow start done nodes) at start ≡ grow (at_parent start (grown_behind grow start done nodes) node.parent) at node
-  unfolding grown_behind
-  grown_behind-at done [] zero at node i e h = cc
-  grown_behind-at done [] (suc n) at node i e h = cc
-  grown_behind-at done (first ∷ more) zero at node i e h =
+  grown_after-at : (done : List A) (nodes : List Node) (n at : ℕ) (node : Node) → at ≡ length done + n → slice_get nodes n ≡ Some node → IfSome node.parent (λ p. p.0 < at)
+      → get_or (grown_after grow start done nodes) at start ≡ grow (at_parent start (grown_after grow start done nodes) node.parent) at node
+  unfolding grown_after
+  grown_after-at done [] zero at node i e h = cc
+  grown_after-at done [] (suc n) at node i e h = cc
+  grown_after-at done (first ∷ more) zero at node i e h =
       let x = grow (at_parent start done first.parent) (length done) first in
       let long = length-append done (x ∷ []) in
       let same : first ≡ node = ap (λ o. unwrap_or o first) e in
@@ -48,37 +48,37 @@ module _ {A : Type 0} (grow : A → ℕ → Node → A) (start : A) where
       keeps (done ++ x ∷ []) more at (omega (arith, long, i))
       ∙ get_or_push done x start at (omega (arith, i))
       ∙ ap₂ (λ a k. grow a k first) (sym (keeps_parent done (first ∷ more) first.parent below)) (let j : length done ≡ at = omega (arith, i) in j)
-      ∙ ap (λ (m : Node). grow (at_parent start (grown_behind grow start done (first ∷ more)) m.parent) at m) same
-  grown_behind-at done (first ∷ more) (suc n) at node i e h =
+      ∙ ap (λ (m : Node). grow (at_parent start (grown_after grow start done (first ∷ more)) m.parent) at m) same
+  grown_after-at done (first ∷ more) (suc n) at node i e h =
       let x = grow (at_parent start done first.parent) (length done) first in
       let long = length-append done (x ∷ []) in
-      grown_behind-at (done ++ x ∷ []) more n at node (omega (arith, long, i)) e h
+      grown_after-at (done ++ x ∷ []) more n at node (omega (arith, long, i)) e h
 
 pub length-path_sizes : (nodes : List Node) → length (path_sizes nodes) ≡ length nodes
-length-path_sizes nodes = let long = length-grown_behind longer no_path [] nodes in omega (arith, long)
+length-path_sizes nodes = let long = length-grown_after longer no_path [] nodes in omega (arith, long)
 
 pub path_sizes-push : (before : List Node) (node : Node) → path_sizes (before ++ node ∷ []) ≡ path_sizes before ++ path_to before node ∷ []
-unfolding grown_behind
-path_sizes-push before node = grown_behind-append longer no_path [] before (node ∷ [])
+unfolding grown_after
+path_sizes-push before node = grown_after-append longer no_path [] before (node ∷ [])
 
 -- a node's stimulus is its parent's and its segment
 pub joined-at : (nodes : List Node) (n : ℕ) (node : Node) → slice_get nodes n ≡ Some node → IfSome node.parent (λ p. p.0 < n)
     → joined nodes n ≡ at_parent [] (grown with_segment [] nodes) node.parent ++ node.segment
-joined-at nodes n node e h = grown_behind-at with_segment [] [] nodes n n node (let same : n ≡ 0 + n = omega arith in same) e h
+joined-at nodes n node e h = grown_after-at with_segment [] [] nodes n n node (let same : n ≡ 0 + n = omega arith in same) e h
 
 -- a node's path is its number and its parent's path
 pub path-at : (nodes : List Node) (n : ℕ) (node : Node) → slice_get nodes n ≡ Some node → IfSome node.parent (λ p. p.0 < n)
     → path nodes n ≡ n ∷ at_parent [] (grown with_number [] nodes) node.parent
-path-at nodes n node e h = grown_behind-at with_number [] [] nodes n n node (let same : n ≡ 0 + n = omega arith in same) e h
+path-at nodes n node e h = grown_after-at with_number [] [] nodes n n node (let same : n ≡ 0 + n = omega arith in same) e h
 
 -- past the nodes there is no path
 pub path-past : (nodes : List Node) (n : ℕ) → length nodes ≤ n → path nodes n ≡ []
 path-past nodes n h =
-    let long = length-grown_behind with_number [] [] nodes in
+    let long = length-grown_after with_number [] [] nodes in
     get_or_past (grown with_number [] nodes) n [] (omega (arith, long, h))
 
 pub path_sizes-none : (nodes : List Node) → nodes ≡ [] → path_sizes nodes ≡ []
-unfolding grown_behind
+unfolding grown_after
 path_sizes-none nodes e = ap path_sizes e
 
 -- a node's stimulus after its parent's

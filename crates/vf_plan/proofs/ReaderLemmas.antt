@@ -13,7 +13,7 @@ use Rattle.vf_base.specs.declared.names.NodeNo.{NodeNo}
 use Rattle.serde_json.specs.declared.value.Value.{Value}
 use Rattle.vf_plan.specs.declared.plan.Node.{Node}
 use Rattle.vf_plan.specs.Reading.{◌>>=◌, node_named, items_len, with_next, nodes_after}
-use Rattle.vf_plan.specs.Rules.{IsNodeBehind}
+use Rattle.vf_plan.specs.Rules.{IsNodeAfter}
 
 pub items_len_of_view : (values : List Value) → items_len (items_view values) ≡ length values
 items_len_of_view [] = refl
@@ -74,9 +74,9 @@ each-push P [] x h here (suc n) = tt
 each-push P (y ∷ xs) x h here zero = h zero
 each-push P (y ∷ xs) x h here (suc n) = each-push (λ k. P (suc k)) xs x (λ k. h (suc k)) here n
 
-pub behind-push : (nodes : List Node) (node : Node) → ((n : ℕ) → IfSome (slice_get nodes n) (IsNodeBehind (take n nodes))) → IsNodeBehind nodes node
-    → (n : ℕ) → IfSome (slice_get (nodes ++ node ∷ []) n) (IsNodeBehind (take n (nodes ++ node ∷ [])))
-behind-push nodes node each here = each-push (λ n. IsNodeBehind (take n (nodes ++ node ∷ []))) nodes node moved (subst (λ front. IsNodeBehind front node) (sym (front (length nodes) (omega arith) ∙ all nodes)) here)
+pub after-push : (nodes : List Node) (node : Node) → ((n : ℕ) → IfSome (slice_get nodes n) (IsNodeAfter (take n nodes))) → IsNodeAfter nodes node
+    → (n : ℕ) → IfSome (slice_get (nodes ++ node ∷ []) n) (IsNodeAfter (take n (nodes ++ node ∷ [])))
+after-push nodes node each here = each-push (λ n. IsNodeAfter (take n (nodes ++ node ∷ []))) nodes node moved (subst (λ front. IsNodeAfter front node) (sym (front (length nodes) (omega arith) ∙ all nodes)) here)
   where
     front : (n : ℕ) → n ≤ length nodes → take n (nodes ++ node ∷ []) ≡ take n nodes
     front n h = take-append-le n nodes (node ∷ []) h
@@ -85,22 +85,22 @@ behind-push nodes node each here = each-push (λ n. IsNodeBehind (take n (nodes 
     all [] = refl
     all (x ∷ xs) = ap (λ ys. x ∷ ys) (all xs)
 
-    moved : (n : ℕ) → IfSome (slice_get nodes n) (IsNodeBehind (take n (nodes ++ node ∷ [])))
+    moved : (n : ℕ) → IfSome (slice_get nodes n) (IsNodeAfter (take n (nodes ++ node ∷ [])))
     moved n = by (slice_get nodes n) refl
       where
-        by : (o : Option Node) → slice_get nodes n ≡ o → IfSome o (IsNodeBehind (take n (nodes ++ node ∷ [])))
+        by : (o : Option Node) → slice_get nodes n ≡ o → IfSome o (IsNodeAfter (take n (nodes ++ node ∷ [])))
         by None e = tt
         by (Some y) e =
             let within = slice_get_within nodes n y e in
-            let given : IsNodeBehind (take n nodes) y = subst (λ o. IfSome o (IsNodeBehind (take n nodes))) e (each n) in
-            subst (λ xs. IsNodeBehind xs y) (sym (front n (omega (arith, within)))) given
+            let given : IsNodeAfter (take n nodes) y = subst (λ o. IfSome o (IsNodeAfter (take n nodes))) e (each n) in
+            subst (λ xs. IsNodeAfter xs y) (sym (front n (omega (arith, within)))) given
 
 -- a parent comes before its child
-pub parent_before : (nodes : List Node) → ((n : ℕ) → IfSome (slice_get nodes n) (IsNodeBehind (take n nodes))) → (n : ℕ) (node : Node) → slice_get nodes n ≡ Some node → IfSome node.parent (λ p. p.0 < n)
+pub parent_before : (nodes : List Node) → ((n : ℕ) → IfSome (slice_get nodes n) (IsNodeAfter (take n nodes))) → (n : ℕ) (node : Node) → slice_get nodes n ≡ Some node → IfSome node.parent (λ p. p.0 < n)
 parent_before nodes each n node e = by node.parent behind.parent
   where
-    behind : IsNodeBehind (take n nodes) node
-    behind = subst (λ o. IfSome o (IsNodeBehind (take n nodes))) e (each n)
+    behind : IsNodeAfter (take n nodes) node
+    behind = subst (λ o. IfSome o (IsNodeAfter (take n nodes))) e (each n)
 
     short : length (take n nodes) ≤ n
     short = let long = length-take n nodes in omega (arith, long)

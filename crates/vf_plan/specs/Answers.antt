@@ -4,7 +4,7 @@ use Rattle.vf_plan.specs.declared.fault.PlanFault.{PlanFault}
 use Rattle.vf_plan.specs.declared.fault.PlanKind.{PlanKind}
 use Rattle.vf_plan.specs.declared.fault.PlanKind.TheVariants as kinds
 
--- the kind is want of memory, or what the definition gives
+-- the kind is out of memory, or what the definition gives
 abbrev pub FailsWith : {Y : Type 0} → PlanKind → Result Y PlanKind → Type 0
 FailsWith kind is = kind ≢ kinds.Memory → is ≡ Err kind
 

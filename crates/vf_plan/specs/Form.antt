@@ -2,15 +2,39 @@
 use Rattle.std.specs.Prelude.{ℕ, ◌+◌, Bool, true, false, not, ◌==◌, ◌&&◌, ◌||◌, nat_lt, nat_le, if◌then◌else◌, List, [], ◌∷◌, length, codes, Option, Some, None, is_some, unwrap_or}
 use Rattle.std.specs.Char.{is_ascii_alphabetic, is_ascii_alphanumeric}
 use Rattle.std.specs.List.{list_all}
-use Rattle.std.specs.Str.{byte}
-use Rattle.serde_json.specs.Data.{Data, object}
-use Rattle.serde_json.specs.Events.{members_len}
+use Rattle.std.specs.Str.{byte, bytes_eq}
+use Rattle.serde_json.specs.Data.{Data, object, Members, no_members, member}
+use Rattle.vf_plan.specs.declared.json.Keys.{Keys}
+use Rattle.vf_plan.specs.declared.json.Keys.TheVariants.{Plan, Node, LimitedTest}
 use Rattle.serde_json.specs.Find.{get, as_bool, as_number, as_str, as_u64}
 
 infixl 10 ◌>>=◌
 abbrev pub ◌>>=◌ : {A B : Type 0} → Option A → (A → Option B) → Option B
 (Some x) >>= f = f x
 None >>= f = None
+
+-- ---- the keys of an object
+
+-- a key that any node may have
+unfoldable pub is_node_key : List ℕ → Bool
+is_node_key key =
+    bytes_eq key (codes "name") || bytes_eq key (codes "after") || bytes_eq key (codes "text") || bytes_eq key (codes "hex")
+    || bytes_eq key (codes "test") || bytes_eq key (codes "expect_text") || bytes_eq key (codes "expect")
+
+-- a key of the whole plan, of a node, or of a test that may have limits of its own
+unfoldable pub is_key : Keys → List ℕ → Bool
+is_key Plan key = bytes_eq key (codes "version") || bytes_eq key (codes "nodes")
+is_key Node key = is_node_key key
+is_key LimitedTest key = is_node_key key || bytes_eq key (codes "turns") || bytes_eq key (codes "output")
+
+abbrev pub all_keys : (List ℕ → Bool) → Members → Bool
+all_keys test no_members = true
+all_keys test (member key value more) = test key && all_keys test more
+
+-- an object whose keys are all of these
+unfoldable pub has_only : Keys → Data → Bool
+has_only keys (object members) = all_keys (is_key keys) members
+has_only keys _ = false
 
 -- ---- the name of a node
 
@@ -81,27 +105,14 @@ limits_in false node = Some (record { test = false; turns = None; output = None 
 abbrev pub has_limits : ℕ → Bool → Bool
 has_limits version test = (version == 2) && test
 
+abbrev pub keys_of_node : Bool → Keys
+keys_of_node limited = if limited then LimitedTest else Node
+
 unfoldable pub marks_of : ℕ → Data → Option Marks
 marks_of version node = do
   test ← truth_in (get (codes "test") node)
   marks ← limits_in (has_limits version test) node
   Some (record marks { test = test })
-
--- 1 where the key is there
-abbrev pub present : List ℕ → Data → ℕ
-present key node = if is_some (get key node) then 1 else 0
-
--- how many of a node's keys are there
-abbrev pub known_keys : Bool → Data → ℕ
-known_keys limited node =
-    present (codes "name") node + present (codes "after") node + present (codes "text") node + present (codes "hex") node
-    + present (codes "test") node + present (codes "expect_text") node + present (codes "expect") node
-    + (if limited then present (codes "turns") node + present (codes "output") node else 0)
-
--- An object of so many members. It has each key once, so with as many members as known keys it has no other.
-abbrev pub has_members : ℕ → Data → Bool
-has_members count (object ms) = members_len ms == count
-has_members count _ = false
 
 -- what a segment is written as
 abbrev pub segment_text : Texts → List ℕ
@@ -127,7 +138,7 @@ is_lawful texts =
 
 abbrev pub if_formed : ℕ → Data → Texts → Marks → Option (Texts × Marks)
 if_formed version node texts marks =
-    if has_members (known_keys (has_limits version marks.test) node) node && is_lawful texts then Some (texts, marks) else None
+    if has_only (keys_of_node (has_limits version marks.test)) node && is_lawful texts then Some (texts, marks) else None
 
 -- what a node of a plan of the version writes, if it has the form of one
 unfoldable pub form_of : ℕ → Data → Option (Texts × Marks)

@@ -4,7 +4,7 @@ use Rattle.vf_plan.specs.declared.plan.Node.{Node}
 use Rattle.vf_plan.specs.declared.plan.Plan.TheInside.{Inside}
 use Rattle.vf_plan.specs.declared.reader.Reader.TheInside as reader
 use Rattle.vf_plan.specs.Paths.{path_sizes}
-use Rattle.vf_plan.specs.Rules.{IsPlan, IsNodeBehind}
+use Rattle.vf_plan.specs.Rules.{IsPlan, IsNodeAfter}
 
 abbrev pub nodes_of : Inside → List Node
 nodes_of p = p.nodes.items
@@ -21,4 +21,4 @@ pub record IsReader (r : reader.Inside) : Type 0 where
   pub sized : r.paths.items ≡ path_sizes r.nodes.items
   pub few : length r.nodes.items ≤ 4096
   pub small : (n : ℕ) → IfSome (slice_get r.paths.items n) (λ path. (path.nodes ≤ 64) × (path.bytes ≤ 1048576))
-  pub each : (n : ℕ) → IfSome (slice_get r.nodes.items n) (IsNodeBehind (take n r.nodes.items))
+  pub each : (n : ℕ) → IfSome (slice_get r.nodes.items n) (IsNodeAfter (take n r.nodes.items))

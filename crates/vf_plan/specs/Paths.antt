@@ -9,15 +9,15 @@ abbrev pub at_parent : {A : Type 0} → A → List A → Option NodeNo → A
 at_parent start before None = start
 at_parent start before (Some parent) = get_or before parent.0 start
 
--- what each node has, behind those before it, where a node has what grows out of its parent's by its number and itself
-unfoldable pub grown_behind : {A : Type 0} → (A → ℕ → Node → A) → A → List A → List Node → List A
-grown_behind grow start before [] = before
-grown_behind grow start before (node ∷ more) =
-    grown_behind grow start (before ++ grow (at_parent start before node.parent) (length before) node ∷ []) more
+-- what each node has, after those before it, where a node has what grows out of its parent's by its number and itself
+unfoldable pub grown_after : {A : Type 0} → (A → ℕ → Node → A) → A → List A → List Node → List A
+grown_after grow start before [] = before
+grown_after grow start before (node ∷ more) =
+    grown_after grow start (before ++ grow (at_parent start before node.parent) (length before) node ∷ []) more
 
 -- what grows along the path from the root to each node of a plan
 abbrev pub grown : {A : Type 0} → (A → ℕ → Node → A) → A → List Node → List A
-grown grow start nodes = grown_behind grow start [] nodes
+grown grow start nodes = grown_after grow start [] nodes
 
 abbrev pub with_segment : List ℕ → ℕ → Node → List ℕ
 with_segment bytes n node = bytes ++ node.segment
@@ -43,6 +43,6 @@ longer path n node = record { nodes = path.nodes + 1; bytes = path.bytes + lengt
 abbrev pub path_sizes : List Node → List PathSize
 path_sizes nodes = grown longer no_path nodes
 
--- the size of the path to a node that stands behind others
+-- the size of the path to a node that stands after others
 abbrev pub path_to : List Node → Node → PathSize
 path_to before node = longer (at_parent no_path (path_sizes before) node.parent) (length before) node

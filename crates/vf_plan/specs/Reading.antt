@@ -10,9 +10,10 @@ use Rattle.vf_base.specs.declared.names.NodeNo.{NodeNo}
 use Rattle.vf_plan.specs.declared.fault.PlanFault.{PlanFault}
 use Rattle.vf_plan.specs.declared.fault.PlanKind.{PlanKind}
 use Rattle.vf_plan.specs.declared.fault.PlanKind.TheVariants.{NotJson, Shape, DuplicateName, UnknownParent, TooMany, TooLong, BadHex, NoTest, TooDeep}
+use Rattle.vf_plan.specs.declared.json.Keys.TheVariants as keys
 use Rattle.vf_plan.specs.declared.plan.Node.{Node}
 use Rattle.vf_plan.specs.declared.plan.PathSize.{PathSize}
-use Rattle.vf_plan.specs.Form.{Texts, Marks, form_of, has_members}
+use Rattle.vf_plan.specs.Form.{Texts, Marks, form_of, has_only}
 use Rattle.vf_plan.specs.Paths.{path_to}
 
 infixl 10 ◌>>=◌
@@ -20,7 +21,7 @@ abbrev pub ◌>>=◌ : {A B F : Type 0} → Result A F → (A → Result B F) �
 Ok x >>= f = f x
 Err fault >>= f = Err fault
 
--- ---- a node behind others
+-- ---- a node after others
 
 -- the bytes of hex digits
 unfoldable pub decoded : List ℕ → Result (List ℕ) PlanKind
@@ -83,7 +84,7 @@ node_from before (Some form) = do
     output = form.1.output;
   })
 
--- the node that a value writes behind others, or its first fault
+-- the node that a value writes after others, or its first fault
 unfoldable pub node_after : ℕ → List Node → Data → Result Node PlanKind
 node_after version before value = node_from before (form_of version value)
 
@@ -96,11 +97,11 @@ at_node n (Err kind) = Err (record { kind = kind; node = Some n })
 abbrev pub at_none : PlanKind → PlanFault
 at_none kind = record { kind = kind; node = None }
 
--- the nodes with the one that a value writes behind them
+-- the nodes with the one that a value writes after them
 abbrev pub with_next : ℕ → List Node → Data → Result (List Node) PlanFault
 with_next version before value = at_node (length before) (node_after version before value) >>= λ node. Ok (before ++ node ∷ [])
 
--- the nodes with those that the values write behind them
+-- the nodes with those that the values write after them
 unfoldable pub nodes_after : ℕ → List Node → Items → Result (List Node) PlanFault
 nodes_after version before no_items = Ok before
 nodes_after version before (item value more) =
@@ -131,10 +132,10 @@ whole_at key value = elim (get key value) [ None ↦ None | Some found ↦ elim 
 abbrev pub list_at : List ℕ → Data → Option Items
 list_at key value = elim (get key value) [ None ↦ None | Some found ↦ as_array found ]
 
--- an object of exactly `version`, 1 or 2, and `nodes`, a list of 1 to 4,096
+-- an object of `version`, 1 or 2, and `nodes`, a list of 1 to 4,096, and no other key
 unfoldable pub outline_of : Data → Result Outline PlanKind
 outline_of value =
-    if has_members 2 value then outline_with (whole_at (codes "version") value) (list_at (codes "nodes") value) else Err Shape
+    if has_only keys.Plan value then outline_with (whole_at (codes "version") value) (list_at (codes "nodes") value) else Err Shape
 
 abbrev pub if_tested : List Node → Result (List Node) PlanFault
 if_tested nodes = if list_any (λ node. node.test) nodes then Ok nodes else Err (at_none NoTest)

@@ -6,8 +6,8 @@ use Rattle.vf_plan.specs.Form.{is_name}
 use Rattle.vf_plan.specs.Paths.{path_to}
 use Rattle.vf_plan.specs.Reading.{node_named}
 
--- what a node keeps to that stands behind others
-pub record IsNodeBehind (before : List Node) (node : Node) : Type 0 where
+-- what a node keeps to that stands after others
+pub record IsNodeAfter (before : List Node) (node : Node) : Type 0 where
   pub name : is_name node.name ≡ true
   pub new : node_named node.name before ≡ None
   pub parent : IfSome node.parent (λ parent. parent.0 < length before)
@@ -19,9 +19,9 @@ pub record IsNodeBehind (before : List Node) (node : Node) : Type 0 where
   pub turns : IfSome node.turns (λ turns. (1 ≤ turns) × (turns ≤ 4294967296) × (node.test ≡ true))
   pub output : IfSome node.output (λ output. (output ≤ 262144) × (node.test ≡ true))
 
--- what each plan is: 1 to 4,096 nodes, each lawful behind those before it, and a test among them
+-- what each plan is: 1 to 4,096 nodes, each lawful after those before it, and a test among them
 pub record IsPlan (nodes : List Node) : Type 0 where
   pub some : 0 < length nodes
   pub most : length nodes ≤ 4096
-  pub each : (n : ℕ) → IfSome (slice_get nodes n) (IsNodeBehind (take n nodes))
+  pub each : (n : ℕ) → IfSome (slice_get nodes n) (IsNodeAfter (take n nodes))
   pub tested : list_any (λ node. node.test) nodes ≡ true

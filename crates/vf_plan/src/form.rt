@@ -3,10 +3,10 @@
 ghost use Rattle.std.specs.Prelude.{◌≡◌, length, option_map, Some, None};
 ghost use Rattle.std.specs.List.{list_all};
 ghost use Rattle.serde_json.specs.View.{view};
-ghost use Rattle.vf_plan.specs.Form.{is_name_byte, is_name, texts_of, has_limits, marks_of, limits_in, known_keys, segment_text, is_one, is_lawful, form_of};
+ghost use Rattle.vf_plan.specs.Form.{is_name_byte, is_name, texts_of, has_limits, marks_of, limits_in, keys_of_node, segment_text, is_one, is_lawful, form_of};
 ghost use Rattle.vf_plan.specs.Seen.{texts_seen, marks_seen};
 
-use crate::json::{has_members, present, text_at, text_in, truth_in, whole_in};
+use crate::json::{Keys, has_only, text_at, text_in, truth_in, whole_in};
 use serde_json::Value;
 
 /// How long a name may be, in bytes.
@@ -117,23 +117,14 @@ fn marks_of(version: u64, node: &Value) -> Option<Marks>
     Some(Marks { test, ..marks })
 }
 
-/// How many keys of a node are there.
-fn known_keys(limited: bool, node: &Value) -> usize
-    ensures { result ≡ known_keys limited (view node.now) }
+fn keys_of_node(limited: bool) -> Keys
+    ensures { result ≡ keys_of_node limited }
 {
-    let limits = if limited {
-        present(node, "turns") + present(node, "output")
+    if limited {
+        Keys::LimitedTest
     } else {
-        0
-    };
-    present(node, "name")
-        + present(node, "after")
-        + present(node, "text")
-        + present(node, "hex")
-        + present(node, "test")
-        + present(node, "expect_text")
-        + present(node, "expect")
-        + limits
+        Keys::Node
+    }
 }
 
 /// How many bytes the text of a segment has.
@@ -172,8 +163,8 @@ pub(crate) fn form_of(version: u64, node: &Value) -> Option<(Texts<'_>, Marks)>
 {
     let texts = texts_of(node)?;
     let marks = marks_of(version, node)?;
-    let keys = known_keys(has_limits(version, marks.test), node);
-    if has_members(node, keys) && is_lawful(&texts) {
+    let keys = keys_of_node(has_limits(version, marks.test));
+    if has_only(node, keys) && is_lawful(&texts) {
         Some((texts, marks))
     } else {
         None

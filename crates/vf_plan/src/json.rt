@@ -1,14 +1,16 @@
 //! What stands in a JSON value, in the words of a plan.
 
-ghost use Rattle.std.specs.Prelude.{◌≡◌, ◌≤◌, ◌≢◌, option_map, IfOk, IsErrOf, IfErr, Some, None};
+ghost use Rattle.std.specs.Prelude.{◌≡◌, ◌≤◌, ◌≢◌, option_map, IfOk, IsErrOf, IfErr, Some, None, string_bytes};
 ghost use Rattle.serde_json.specs.Find.{get};
 ghost use Rattle.serde_json.specs.View.{view, items_view};
-ghost use Rattle.vf_plan.specs.Form.{text_at, text_in, truth_in, whole_in, in_range, present, has_members};
+ghost use Rattle.vf_plan.specs.Form.{text_at, text_in, truth_in, whole_in, in_range, is_node_key, is_key, has_only};
 ghost use Rattle.vf_plan.specs.Reading.{whole_at, list_at, read_bytes};
 ghost use Rattle.vf_plan.specs.declared.fault.PlanKind.TheVariants as kinds;
+ghost use Rattle.std.specs.List.{list_all};
+ghost use Rattle.std.specs.BTreeMap as BTreeMap;
 
 use crate::PlanKind;
-use serde_json::Value;
+use serde_json::{Map, Value};
 use std::alloc::Global;
 
 /// The JSON value that the bytes write.
@@ -30,24 +32,54 @@ pub(crate) fn read_bytes(alloc: Global, bytes: &[u8]) -> Result<Value, PlanKind>
     }
 }
 
-/// Whether a value is an object of so many members.
-pub(crate) fn has_members(value: &Value, count: usize) -> bool
-    ensures { result ≡ has_members count (view value.now) }
+/// Which keys an object of a plan file may have.
+#[derive(Clone, Copy)]
+pub(crate) enum Keys {
+    /// Those of the whole plan.
+    Plan,
+    /// Those of a node.
+    Node,
+    /// Those of a test that may have limits of its own.
+    LimitedTest,
+}
+
+#[tactic(auto, unfolding(crate::specs::Form::is_node_key))]
+fn is_node_key(key: &str) -> bool
+    ensures { result ≡ is_node_key key.now }
 {
-    match value.as_object() {
-        Some(members) => members.len() == count,
-        None => false,
+    key == "name"
+        || key == "after"
+        || key == "text"
+        || key == "hex"
+        || key == "test"
+        || key == "expect_text"
+        || key == "expect"
+}
+
+#[tactic(auto, unfolding(crate::specs::Form::is_key))]
+fn is_key(keys: Keys, key: &str) -> bool
+    ensures { result ≡ is_key keys key.now }
+{
+    match keys {
+        Keys::Plan => key == "version" || key == "nodes",
+        Keys::Node => is_node_key(key),
+        Keys::LimitedTest => is_node_key(key) || key == "turns" || key == "output",
     }
 }
 
-/// 1 where the key is there, and 0 where it is not.
-pub(crate) fn present(value: &Value, key: &str) -> usize
-    ensures count { result ≡ present key.now (view value.now) }
-    ensures most { result ≤ 1 }
+fn are_keys(keys: Keys, members: &Map<String, Value>) -> bool
+    ensures { result ≡ list_all (λ key. is_key keys (string_bytes key)) (BTreeMap.keys members.now) }
 {
-    match value.get(key) {
-        Some(_) => 1,
-        None => 0,
+    members.keys().all(|key| is_key(keys, key.as_str()))
+}
+
+/// Whether a value is an object that has no other keys.
+pub(crate) fn has_only(value: &Value, keys: Keys) -> bool
+    ensures { result ≡ has_only keys (view value.now) }
+{
+    match value.as_object() {
+        Some(members) => are_keys(keys, members),
+        None => false,
     }
 }
 

@@ -6,7 +6,7 @@ ghost use Rattle.vf_plan.specs.Form.{form_of};
 ghost use Rattle.vf_plan.specs.Reading.{decoded, segment_of, expect_of, node_after, with_next, nodes_after, outline_of, plan_of};
 
 use crate::form::form_of;
-use crate::json::{has_members, list_at, read_bytes, whole_at};
+use crate::json::{Keys, has_only, list_at, read_bytes, whole_at};
 use crate::plan::{Node, Plan};
 use crate::reader::Reader;
 use crate::{PlanFault, PlanKind};
@@ -59,7 +59,7 @@ fn expect_of(alloc: Global, text: Option<&str>, hex: Option<&str>) -> Result<Opt
     }
 }
 
-/// The node that a value writes behind those read so far.
+/// The node that a value writes after those read so far.
 #[tactic(auto, unfolding(crate::specs::Reading::node_after))]
 fn node_after(alloc: Global, version: u64, reader: &Reader, value: &Value) -> Result<Node, PlanKind>
     ensures { Gives (λ node. node) result (node_after version reader.now (view value.now)) }
@@ -81,7 +81,7 @@ fn node_after(alloc: Global, version: u64, reader: &Reader, value: &Value) -> Re
     })
 }
 
-/// The fault of a node; want of memory is none of a node.
+/// The fault of a node; that memory ran out is no fault of a node.
 fn fault_at(kind: PlanKind, node: usize) -> PlanFault
     requires { node < 4096 }
     ensures kind { result.kind ≡ kind }
@@ -142,7 +142,7 @@ fn outline_of(value: &Value) -> Result<(u64, &Vec<Value>), PlanKind>
     ensures most { IfOk result (λ outline. length outline.1.now.items ≤ 4096) }
     ensures memory { IfErr result (λ kind. kind ≢ kinds.Memory) }
 {
-    if !has_members(value, 2) {
+    if !has_only(value, Keys::Plan) {
         return Err(PlanKind::Shape);
     }
     let Some(version) = whole_at(value, "version") else {

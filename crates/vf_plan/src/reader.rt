@@ -6,7 +6,7 @@ ghost use Rattle.vf_plan.specs.declared.fault.PlanKind.TheVariants as kinds;
 ghost use Rattle.vf_plan.specs.Answers.{Gives, Reads};
 ghost use Rattle.vf_plan.specs.Paths.{no_path, at_parent, path_sizes, path_to};
 ghost use Rattle.vf_plan.specs.Reading.{node_named, placed, is_long, bounded, if_tested};
-ghost use Rattle.vf_plan.specs.Rules.{IsNodeBehind};
+ghost use Rattle.vf_plan.specs.Rules.{IsNodeAfter};
 
 use crate::plan::{Node, PathSize, Plan};
 use crate::{PlanFault, PlanKind};
@@ -114,7 +114,7 @@ impl Reader {
         self.paths[parent.0 as usize]
     }
 
-    /// The size of the path to a node behind those read so far.
+    /// The size of the path to a node after those read so far.
     fn path_to(&self, node: &Node) -> PathSize
         requires { IfSome node.now.parent (λ p. p.0 < length self.now) }
         ensures { result ≡ path_to self.now node.now }
@@ -145,9 +145,9 @@ impl Reader {
         Ok(node)
     }
 
-    /// Adds a node behind those read so far.
+    /// Adds a node after those read so far.
     pub(crate) fn with(self, alloc: Global, node: Node) -> Result<Reader, PlanKind>
-        requires fits { IsNodeBehind self node }
+        requires fits { IsNodeAfter self node }
         requires few { length self < 4096 }
         ensures ok { IfOk result (λ reader. reader ≡ self ++ node ∷ []) }
         ensures length { IfOk result (λ reader. length reader ≡ length self + 1) }

@@ -2,9 +2,9 @@ use Rattle.std.proofs.Common.{◌≡◌, ◌∙◌, ◌≤◌, ◌∷◌, [], �
 use Rattle.std.specs.Str.{bytes_eq}
 use Rattle.vf_plan.specs.declared.plan.PathSize.{PathSize}
 use Rattle.vf_plan.specs.Paths.{path_to}
-use Rattle.vf_plan.specs.Rules.{IsNodeBehind}
+use Rattle.vf_plan.specs.Rules.{IsNodeAfter}
 use Rattle.vf_plan.proofs.PathLemmas.{sized-push}
-use Rattle.vf_plan.proofs.ReaderLemmas.{each-push, behind-push, named-push}
+use Rattle.vf_plan.proofs.ReaderLemmas.{each-push, after-push, named-push}
 use Rattle.vf_plan.proofs.reader.Reader.with.Goals as goal
 
 pub invariant_of-result : goal.invariant_of-result
@@ -12,7 +12,7 @@ invariant_of-result c =
     let nodes = c.self.inside.nodes.items in
     let node = c.args.node in
     let path = c.path_to-path.result in
-    let fits : IsNodeBehind nodes node = subst (λ ns. IsNodeBehind ns node) (sym c.self.view_is) c.requires.fits in
+    let fits : IsNodeAfter nodes node = subst (λ ns. IsNodeAfter ns node) (sym c.self.view_is) c.requires.fits in
     let sized : path ≡ path_to nodes node = c.path_to-path.ensures ∙ ap (λ ns. path_to ns node) (sym c.self.view_is) in
     let long = ap length c.in_ok-push-2.ensures.items ∙ length-append nodes (node ∷ []) in
     let before = ap length c.self.view_is in
@@ -23,5 +23,5 @@ invariant_of-result c =
       sized = sized-push nodes node c.self.inside.paths.items c.push.new.self.items path c.push-2.new.self.items c.self.invariant.sized sized c.in_ok-push.ensures.items c.in_ok-push-2.ensures.items;
       few = omega (arith, long, before, c.requires.few);
       small = subst (λ (ps : List PathSize). (n : ℕ) → IfSome (slice_get ps n) (λ p. (p.nodes ≤ 64) × (p.bytes ≤ 1048576))) (sym c.in_ok-push.ensures.items) (each-push (λ n p. (p.nodes ≤ 64) × (p.bytes ≤ 1048576)) c.self.inside.paths.items path c.self.invariant.small (depth, bytes));
-      each = subst (λ ns. (n : ℕ) → IfSome (slice_get ns n) (IsNodeBehind (take n ns))) (sym c.in_ok-push-2.ensures.items) (behind-push nodes node c.self.invariant.each fits);
+      each = subst (λ ns. (n : ℕ) → IfSome (slice_get ns n) (IsNodeAfter (take n ns))) (sym c.in_ok-push-2.ensures.items) (after-push nodes node c.self.invariant.each fits);
     }
