@@ -1,0 +1,5 @@
+pub mod Farm
+pub mod Records
+pub mod Effects
+pub mod Journal
+pub mod Machine
