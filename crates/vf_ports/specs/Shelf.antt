@@ -11,6 +11,13 @@ pub data Told : Type 0 where
   missing : Told
   file : List ℕ → Told
 
+-- a shelf at one moment: what it tells of each name, the names of its failed calls where it tells them, and its count of
+-- faults
+pub record ShelfState : Type 0 where
+  pub holds : List ℕ → Told
+  pub failed : Option (List (List ℕ))
+  pub faults : ℕ
+
 -- these are the bytes of the file, as far as the shelf tells
 abbrev pub IsFile : Told → List ℕ → Type 0
 IsFile untold bytes = ⊤

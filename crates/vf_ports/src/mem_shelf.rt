@@ -62,7 +62,7 @@ impl MemShelf {
         find(&self.entries, name)
     }
 
-    /// Counts a fault and keeps its call's name, or leaves both as they were for want of memory.
+    /// Counts a fault and keeps its call's name, or leaves both as they were where there is no memory.
     fn note_fault(&mut self, name: &str) -> Result<(), Memory>
         ensures ok { OnOk result (self.new ≡ record self.old { failed = self.old.failed ++ name.now ∷ []; faults = raised self.old.faults }) }
         ensures rose { OnOk result (Rose self.old.faults self.new.faults) }
@@ -78,11 +78,7 @@ impl MemShelf {
 impl Shelf for MemShelf {
     ghost use Rattle.std.specs.Prelude.{Some};
 
-    ghost holds = { λ s. holding s.entries };
-
-    ghost failed = { λ s. Some s.failed };
-
-    ghost faults = { λ s. s.faults };
+    ghost seen = { λ s. record { holds = holding s.entries; failed = Some s.failed; faults = s.faults } };
 
     /// A refusal leaves the target as it was.
     fn fetch(&mut self, name: &str, max: u64, into: &mut Vec<u8>) -> Result<(), ShelfRefusal>

@@ -79,9 +79,7 @@ impl MemSink {
 impl Sink for MemSink {
     ghost use Rattle.std.specs.Prelude.{Some};
 
-    ghost written = { λ s. Some s.written };
-
-    ghost faults = { λ s. s.faults };
+    ghost seen = { λ s. record { written = Some s.written; faults = s.faults } };
 
     fn write(&mut self, piece: &[u8]) -> Result<usize, SinkFailed>
         ensures bound { IfOk result (λ count. count ≤ length piece.now) }

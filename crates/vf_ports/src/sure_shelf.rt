@@ -34,11 +34,7 @@ impl Shelf for SureShelf {
     ghost use Rattle.std.specs.Prelude.{Some};
     ghost use Rattle.vf_ports.specs.Shelf.{file};
 
-    ghost holds = { λ files name. file (unwrap_or (file_named files name) []) };
-
-    ghost failed = { λ _. Some [] };
-
-    ghost faults = { λ _. 0 };
+    ghost seen = { λ files. record { holds = λ name. file (unwrap_or (file_named files name) []); failed = Some []; faults = 0 } };
 
     /// It never fails. A refusal leaves the target as it was.
     fn fetch(&mut self, name: &str, max: u64, into: &mut Vec<u8>) -> Result<(), ShelfRefusal>

@@ -7,8 +7,8 @@ abbrev pub invariant-loop-rest : goal.invariant-loop-rest
 invariant-loop-rest g l = record {
   count : ℕ;
   rest : l.rest ≡ drop count l.bytes;
-  out : Appends (g.K.Sink.written l.initial.sink) (g.K.Sink.written l.sink) (take count l.bytes);
-  no_fault : g.K.Sink.faults l.sink ≡ g.K.Sink.faults l.initial.sink;
+  out : Appends (g.K.Sink.seen l.initial.sink).written (g.K.Sink.seen l.sink).written (take count l.bytes);
+  no_fault : (g.K.Sink.seen l.sink).faults ≡ (g.K.Sink.seen l.initial.sink).faults;
 }
 
 abbrev pub decreases-loop-rest : goal.decreases-loop-rest
