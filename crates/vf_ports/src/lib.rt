@@ -23,6 +23,3 @@ pub use shelf::{Shelf, ShelfRefusal};
 pub use sink::{Sink, SinkFailed, put_all};
 pub use sure_shelf::SureShelf;
 pub use sure_sink::SureSink;
-
-#[cfg(test)]
-mod tests;

@@ -2,14 +2,19 @@ ghost use Rattle.std.specs.Prelude.{◌≡◌, ◌+◌, ◌^◌, ◌<◌, ◌≤
 ghost use Rattle.std.specs.Io.{StartsWith};
 ghost use Rattle.vf_ports.specs.Shelf.{ShelfState, CountsFault, ListsFailure, TakesOneMore, Fetches};
 
+use thiserror::Error;
+
 /// Why a file was not fetched.
-#[derive(Clone, Copy, Debug, PartialEq, Eq)]
+#[derive(Clone, Copy, Debug, PartialEq, Eq, Error)]
 pub enum ShelfRefusal {
     /// The outside failed, or it has no file of that name; the count of faults rose.
+    #[error("the outside failed to give the file")]
     Failed,
     /// The file has more bytes than the call allowed. So many were taken to see that: one more.
+    #[error("the file is too long: {taken} bytes were taken")]
     TooLong { taken: u64 },
     /// Out of memory.
+    #[error("out of memory")]
     Memory,
 }
 

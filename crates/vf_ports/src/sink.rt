@@ -2,8 +2,11 @@ ghost use Rattle.std.specs.Prelude.{◌≡◌, ◌<◌, ◌≤◌, length, take,
 ghost use Rattle.vf_ports.specs.Counts.{Rose};
 ghost use Rattle.vf_ports.specs.Sink.{SinkState, Appends, AppendsPart};
 
+use thiserror::Error;
+
 /// The outside took nothing; the count of faults rose.
-#[derive(Clone, Copy, Debug, PartialEq, Eq)]
+#[derive(Clone, Copy, Debug, PartialEq, Eq, Error)]
+#[error("the output took nothing")]
 pub struct SinkFailed;
 
 /// Takes bytes in their order, and counts the failures in writing them.

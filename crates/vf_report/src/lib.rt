@@ -8,8 +8,6 @@
 pub mod laws;
 mod line;
 mod summary;
-#[cfg(test)]
-mod tests;
 mod write;
 
 pub use line::test_line;

@@ -1,6 +1,6 @@
 -- The causes, the other way round: the answer leaves no other status.
 use Rattle.std.proofs.Common.{◌≡◌, ℕ, ◌<◌, Bool, true, false, nat_lt, if◌then◌else◌, List, length, Some, None, refl, sym, ◌∙◌, ap, subst, arith}
-use Rattle.vf_ports.specs.Shelf.{Told, IsFile}
+use Rattle.vf_ports.specs.Shelf.{Told, ShelfState, IsFile}
 use Rattle.vf_top.specs.declared.refusal.What.TheVariants.{Design, Plan}
 use Rattle.vf_top.specs.declared.refusal.Refusal.{Refusal}
 use Rattle.vf_top.specs.declared.refusal.Refusal.TheVariants.{Words, Failed, TooLong, DesignNotBuilt, WrongPlan, PlanNotBuilt, Write, Memory}
@@ -8,7 +8,8 @@ use Rattle.vf_top.specs.Words.{files_of}
 use Rattle.vf_report.specs.Totals.{Totals}
 use Rattle.vf_top.specs.Report.{status_of_totals, totals_with, outcome_of}
 use Rattle.vf_top.specs.Fault.{status_of}
-use Rattle.vf_top.specs.Answer.{Files, World, IsInput, IsLong, Answers, reported, refused, Cause, IsGiven, WordsExact}
+use Rattle.vf_top.specs.Answer.{World, IsInput, IsLong, Answers, reported, refused, Cause}
+use Rattle.vf_top.specs.Promise.{IsGiven, WordsExact}
 
 pub unnamed : (words : List (List ℕ)) (names : List ℕ × List ℕ) → files_of words ≡ None → files_of words ≡ Some names → ⊥
 unnamed words names none named = let e = sym none ∙ named in cc
@@ -57,22 +58,22 @@ words_exact words before after status (refused refusal is cause shelf work says)
     (λ two. words_by words before after refusal (sym is ∙ two) cause, λ none. is ∙ no_names_by words before after refusal none cause)
 
 -- the bytes of the design that is given
-pub given_design : (words : List (List ℕ)) (shelf : Files) (design plan : List ℕ) (names : List ℕ × List ℕ) (most : ℕ) (bytes : List ℕ) → IsGiven words shelf design plan
+pub given_design : (words : List (List ℕ)) (shelf : ShelfState) (design plan : List ℕ) (names : List ℕ × List ℕ) (most : ℕ) (bytes : List ℕ) → IsGiven words shelf design plan
     → files_of words ≡ Some names → IsInput shelf names.0 most bytes → bytes ≡ design
 given_design words shelf design plan names most bytes given named input =
     subst (λ (told : Told). IsFile told bytes) (ap (λ (n : List ℕ × List ℕ). shelf.holds n.0) (same_names words names given.names named given.named) ∙ given.design_told) input.is
 
-pub given_plan : (words : List (List ℕ)) (shelf : Files) (design plan : List ℕ) (names : List ℕ × List ℕ) (most : ℕ) (bytes : List ℕ) → IsGiven words shelf design plan
+pub given_plan : (words : List (List ℕ)) (shelf : ShelfState) (design plan : List ℕ) (names : List ℕ × List ℕ) (most : ℕ) (bytes : List ℕ) → IsGiven words shelf design plan
     → files_of words ≡ Some names → IsInput shelf names.1 most bytes → bytes ≡ plan
 given_plan words shelf design plan names most bytes given named input =
     subst (λ (told : Told). IsFile told bytes) (ap (λ (n : List ℕ × List ℕ). shelf.holds n.1) (same_names words names given.names named given.named) ∙ given.plan_told) input.is
 
-pub long_plan_given : (words : List (List ℕ)) (shelf : Files) (design plan : List ℕ) (names : List ℕ × List ℕ) (most : ℕ) → IsGiven words shelf design plan
+pub long_plan_given : (words : List (List ℕ)) (shelf : ShelfState) (design plan : List ℕ) (names : List ℕ × List ℕ) (most : ℕ) → IsGiven words shelf design plan
     → files_of words ≡ Some names → IsLong (shelf.holds names.1) most → most < length plan
 long_plan_given words shelf design plan names most given named long =
     subst (λ (told : Told). IsLong told most) (ap (λ (n : List ℕ × List ℕ). shelf.holds n.1) (same_names words names given.names named given.named) ∙ given.plan_told) long
 
-pub long_design_given : (words : List (List ℕ)) (shelf : Files) (design plan : List ℕ) (names : List ℕ × List ℕ) (most : ℕ) → IsGiven words shelf design plan
+pub long_design_given : (words : List (List ℕ)) (shelf : ShelfState) (design plan : List ℕ) (names : List ℕ × List ℕ) (most : ℕ) → IsGiven words shelf design plan
     → files_of words ≡ Some names → IsLong (shelf.holds names.0) most → most < length design
 long_design_given words shelf design plan names most given named long =
     subst (λ (told : Told). IsLong told most) (ap (λ (n : List ℕ × List ℕ). shelf.holds n.0) (same_names words names given.names named given.named) ∙ given.design_told) long

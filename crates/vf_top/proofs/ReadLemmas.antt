@@ -5,14 +5,15 @@ use Rattle.vf_top.specs.declared.refusal.Refusal.{Refusal}
 use Rattle.vf_top.specs.declared.refusal.Refusal.TheVariants.{Words, Failed, TooLong, DesignNotBuilt, WrongPlan, PlanNotBuilt, Write, Memory}
 use Rattle.vf_top.specs.Words.{files_of}
 use Rattle.vf_top.specs.Fault.{limit_of}
-use Rattle.vf_top.specs.Answer.{Files, FilesKept, IsInput, HasPlanFile, ReadCause, ShelfAfter}
+use Rattle.vf_ports.specs.Shelf.{ShelfState}
+use Rattle.vf_top.specs.Answer.{IsInput, HasPlanFile, ReadCause, ShelfAfter}
 use Rattle.vf_top.specs.Steps.{BuildsDesign, ReadsTest}
 use Rattle.vf_plan.specs.declared.plan.Node.{Node}
 use Rattle.vf_plan.specs.Reading.{plan_of}
 
 -- a design that is refused
-pub design_refused : (words : List (List ℕ)) (before after : Files) (names : List ℕ × List ℕ) (bytes : List ℕ) (refusal : Refusal)
-    → files_of words ≡ Some names → IsInput before names.0 (limit_of Design) bytes → FilesKept before after → BuildsDesign bytes (Err refusal)
+pub design_refused : (words : List (List ℕ)) (before after : ShelfState) (names : List ℕ × List ℕ) (bytes : List ℕ) (refusal : Refusal)
+    → files_of words ≡ Some names → IsInput before names.0 (limit_of Design) bytes → after ≡ before → BuildsDesign bytes (Err refusal)
     → ReadCause words before after refusal × ShelfAfter before after refusal
 design_refused words before after names bytes DesignNotBuilt named input kept refused = ((names, bytes, named, input, refused), kept)
 design_refused words before after names bytes Memory named input kept free = ((names, named), kept)
@@ -24,8 +25,8 @@ design_refused words before after names bytes PlanNotBuilt named input kept h = 
 design_refused words before after names bytes Write named input kept h = absurd h
 
 -- a plan that is refused, or has more than one node
-pub plan_refused : (words : List (List ℕ)) (before after : Files) (bytes : List ℕ) (refusal : Refusal)
-    → HasPlanFile words before bytes → FilesKept before after → ReadsTest (plan_of bytes) (Err refusal)
+pub plan_refused : (words : List (List ℕ)) (before after : ShelfState) (bytes : List ℕ) (refusal : Refusal)
+    → HasPlanFile words before bytes → after ≡ before → ReadsTest (plan_of bytes) (Err refusal)
     → ReadCause words before after refusal × ShelfAfter before after refusal
 plan_refused words before after bytes (WrongPlan fault) file kept refused = ((bytes, file, refused), kept)
 plan_refused words before after bytes PlanNotBuilt file kept refused = ((bytes, file, refused.0, refused.1, refused.2), kept)

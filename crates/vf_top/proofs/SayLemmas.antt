@@ -1,24 +1,25 @@
 -- What the error output is told.
-use Rattle.std.proofs.Common.{◌≡◌, ℕ, List, Result, Ok, Err, inl, inr, arith}
+use Rattle.std.proofs.Common.{◌≡◌, ℕ, List, Result, Ok, Err, inl, inr}
 use Rattle.std.specs.Prelude.{OnOk, OnErr}
 use Rattle.vf_ports.specs.Counts.{Rose}
-use Rattle.vf_ports.specs.Sink.{Appends, AppendsPart}
+use Rattle.vf_ports.specs.Sink.{SinkState, Appends, AppendsPart}
 use Rattle.vf_top.specs.declared.refusal.Refusal.{Refusal}
 use Rattle.vf_top.specs.declared.refusal.Refusal.TheVariants.{Words, Failed, TooLong, DesignNotBuilt, WrongPlan, PlanNotBuilt, Write, Memory}
-use Rattle.vf_top.specs.Answer.{Output, World, Says, Tells, Cause, ShelfAfter, WorkAfter, Answers, refused}
+use Rattle.vf_top.specs.Answer.{World, Says, Cause, ShelfAfter, WorkAfter, Answers, refused}
+use Rattle.vf_top.specs.Steps.{Tells}
 
--- a line that was put out, or a part of it
-pub says_by : {T E : Type 0} (r : Result T E) (before after : Output) (line : List ℕ) → OnOk r (Appends before.written after.written line) → OnOk r (after.faults ≡ before.faults)
+-- a line that was written, or a part of it
+pub says_by : {T E : Type 0} (r : Result T E) (before after : SinkState) (line : List ℕ) → OnOk r (Appends before.written after.written line) → OnOk r (after.faults ≡ before.faults)
     → OnErr r (AppendsPart before.written after.written line) → OnErr r (Rose before.faults after.faults) → Says before after line
-says_by (Ok x) before after line whole kept part rose = inl (whole, kept)
-says_by (Err e) before after line whole kept part rose = inr (record { count = part.count; is = part.is }, rose)
+says_by (Ok x) before after line whole kept part rose = inl (record { whole = whole; faults = kept })
+says_by (Err e) before after line whole kept part rose = inr (record { part = part; rose = rose })
 
--- telling a refusal is how a refused command ends; want of memory for the line of a plan's fault is a want of memory
+-- telling a refusal is how a refused command ends; out of memory for the line of a plan's fault is out of memory
 pub refused_by : (words : List (List ℕ)) (before after : World) (refusal : Refusal) (status : ℕ) → Cause words before after refusal → ShelfAfter before.shelf after.shelf refusal
-    → WorkAfter before after refusal → Tells before.err after.err refusal status → Answers words before after status
+    → WorkAfter words before after refusal → Tells before.err after.err refusal status → Answers words before after status
 refused_by words before after refusal status cause shelf work (inl told) = refused refusal told.0 cause shelf work told.1
 refused_by words before after (WrongPlan fault) status cause shelf work (inr told) =
-    refused Memory told.1 ((cause.1.design.design_name, cause.1.plan_name), cause.1.design.named) shelf (work.out, omega (arith, work.steps)) told.2
+    refused Memory told.1 ((cause.1.design.design_name, cause.1.plan_name), cause.1.design.named) shelf (work.out, inl work.steps) told.2
 refused_by words before after Words status cause shelf work (inr told) = absurd told.0
 refused_by words before after (Failed what) status cause shelf work (inr told) = absurd told.0
 refused_by words before after (TooLong what) status cause shelf work (inr told) = absurd told.0

@@ -1,5 +1,7 @@
 -- One line after another.
-use Rattle.std.proofs.Common.{◌≡◌, ap₂, ℕ, suc, ◌+◌, List, [], ◌∷◌, ◌++◌, length, take, Option, Some, None, option_map, refl, sym, ◌∙◌, ap, subst, arith, append_assoc, zero-add, Result, Ok, Err}
+use Rattle.std.proofs.Common.{◌≡◌, ap₂, ℕ, suc, ◌+◌, List, [], ◌∷◌, ◌++◌, length, take, Option, Some, None, option_map, refl, sym, ◌∙◌, ap, subst, arith, append_assoc, zero-add, length-append, Result, Ok, Err}
+use Rattle.std.proofs.Math.Seq.{take-append-add}
+use Rattle.std.proofs.lemmas.List.{take-append-le}
 use Rattle.std.specs.Prelude.{IfOk}
 use Rattle.vf_base.specs.declared.memory.Memory.{Memory as Wanting}
 use Rattle.vf_base.specs.declared.run.Outcome.{Outcome}
@@ -9,39 +11,42 @@ use Rattle.vf_plan.specs.declared.plan.Node.{Node}
 use Rattle.vf_top.specs.declared.refusal.Refusal.{Refusal}
 use Rattle.vf_top.specs.declared.refusal.Refusal.TheVariants.{Words, Failed, TooLong, DesignNotBuilt, WrongPlan, PlanNotBuilt, Write, Memory}
 use Rattle.vf_top.specs.Report.{text_with, totals_with, outcome_of, report_text, status_of_totals, report_status, turns_of}
-use Rattle.vf_top.specs.Answer.{World, FilesKept, IsAccepted}
+use Rattle.vf_top.specs.Answer.{World, Wrote, WrotePart, IsAccepted}
 use Rattle.vf_top.specs.Steps.{Writes, Ran}
-use Rattle.vf_ports.specs.Sink.{Appends, AppendsPart, AppendsPrefix}
-
-take-past : (x y : List ℕ) (n : ℕ) → take (length x + n) (x ++ y) ≡ x ++ take n y
-take-past [] y n = ap (λ k. take k y) (zero-add n)
-take-past (b ∷ x) y n =
-    let e : suc (length x) + n ≡ suc (length x + n) = omega arith in ap (λ k. take k (b ∷ (x ++ y))) e ∙ ap (λ l. b ∷ l) (take-past x y n)
+use Rattle.vf_ports.specs.Sink.{Appends, AppendsPart}
 
 appends_joined : (before middle after : Option (List ℕ)) (x part y : List ℕ) (n : ℕ) → Appends before middle x → Appends middle after part → part ≡ take n y
     → Appends before after (take (length x + n) (x ++ y))
 appends_joined None middle after x part y n first second is = second ∙ ap (option_map (λ earlier. earlier ++ part)) first
 appends_joined (Some earlier) middle after x part y n first second is =
-    second ∙ ap (option_map (λ e. e ++ part)) first ∙ ap Some (append_assoc earlier x part ∙ ap (λ p. earlier ++ (x ++ p)) is ∙ ap (λ l. earlier ++ l) (sym (take-past x y n)))
+    second ∙ ap (option_map (λ e. e ++ part)) first ∙ ap Some (append_assoc earlier x part ∙ ap (λ p. earlier ++ (x ++ p)) is ∙ ap (λ l. earlier ++ l) (sym (take-append-add x y n)))
 
 -- the first part whole, and of the second a part
-pub appends_then_part : (before middle after : Option (List ℕ)) (x y : List ℕ) → Appends before middle x → AppendsPart middle after y → AppendsPrefix before after (x ++ y)
+pub appends_then_part : (before middle after : Option (List ℕ)) (x y : List ℕ) → Appends before middle x → AppendsPart middle after y → AppendsPart before after (x ++ y)
 appends_then_part before middle after x y first second = record {
   count = length x + second.count;
+  short = omega (arith, second.short, length-append x y);
   is = appends_joined before middle after x (take second.count y) y second.count first second.is refl;
 }
 
--- a report that went out whole
+-- of the first a part
+pub appends_front : (before after : Option (List ℕ)) (x y : List ℕ) → AppendsPart before after x → AppendsPart before after (x ++ y)
+appends_front before after x y first = record {
+  count = first.count;
+  short = omega (arith, first.short, length-append x y);
+  is = subst (λ (bytes : List ℕ). Appends before after bytes) (sym (take-append-le first.count x y (omega (arith, first.short)))) first.is;
+}
+
+-- a report that was written whole
 pub ran_whole : (X : Type 0) (words : List (List ℕ)) (before after : World) (p : Program) (test : Node) (report : List ℕ) (status : ℕ) (x : X)
-    → IsAccepted words before.shelf p test → FilesKept before.shelf after.shelf → after.steps ≡ before.steps + turns_of p test → report ≡ report_text p test
+    → IsAccepted words before.shelf p test → after.shelf ≡ before.shelf → after.steps.count ≡ before.steps.count + turns_of p test → report ≡ report_text p test
     → status ≡ report_status p test → Writes {X = X} before.out after.out report (Ok x) → Ran words before after (Ok status)
 ran_whole X words before after p test report status x accepted kept steps is ends wrote = (
   p,
   test,
   record {
     accepted = accepted;
-    report = subst (λ (bytes : List ℕ). Appends before.out.written after.out.written bytes) is wrote.0;
-    faults = wrote.1;
+    out = subst (λ (bytes : List ℕ). Wrote before.out after.out bytes) is wrote;
     shelf = kept;
     steps = steps;
   },
@@ -50,7 +55,7 @@ ran_whole X words before after p test report status x accepted kept steps is end
 
 -- and one of which a part went out
 pub ran_part : (X : Type 0) (words : List (List ℕ)) (before after : World) (p : Program) (test : Node) (report : List ℕ) (refusal : Refusal)
-    → IsAccepted words before.shelf p test → FilesKept before.shelf after.shelf → after.steps ≡ before.steps + turns_of p test → report ≡ report_text p test
+    → IsAccepted words before.shelf p test → after.shelf ≡ before.shelf → after.steps.count ≡ before.steps.count + turns_of p test → report ≡ report_text p test
     → Writes {X = X} before.out after.out report (Err refusal) → Ran words before after (Err refusal)
 ran_part X words before after p test report Write accepted kept steps is wrote = (
   (
@@ -58,8 +63,7 @@ ran_part X words before after p test report Write accepted kept steps is wrote =
     test,
     record {
       accepted = accepted;
-      part = subst (λ (bytes : List ℕ). AppendsPrefix before.out.written after.out.written bytes) is wrote.0;
-      rose = wrote.1;
+      out = subst (λ (bytes : List ℕ). WrotePart before.out after.out bytes) is wrote;
       steps = steps;
     },
   ),

@@ -15,9 +15,12 @@ use Rattle.vf_report.specs.Tested.{Tested}
 use Rattle.vf_report.specs.Totals.{Totals, summary_of}
 use Rattle.vf_report.specs.Texts.{test_text, summary_text}
 
--- the limits of a test that has none of its own, and the budget in pages
+-- the limits of a test that has none of its own, the event slots of a design, and the budget in pages
 abbrev pub default_limits : Limits
-default_limits = record { turns = 1000000; output = 65536; slots = 1024 }
+default_limits = record { turns = 1000000; output = 65536 }
+
+abbrev pub default_slots : ℕ
+default_slots = 1024
 
 abbrev pub default_budget : ℕ
 default_budget = 65536
@@ -26,12 +29,16 @@ default_budget = 65536
 abbrev pub only_job : Job
 only_job = Finish (record { 0 = 0 })
 
+-- the limits of the plan's only test
+abbrev pub limits_for : Node → Limits
+limits_for test = limits_of default_limits (test ∷ []) only_job
+
 -- the outcome of the test run alone, and the turns that the run performs
 abbrev pub outcome_of : Program → Node → Outcome
 outcome_of p test = kinds.outcome_of (machine_of p) default_limits default_budget (test ∷ []) only_job
 
 abbrev pub turns_of : Program → Node → ℕ
-turns_of p test = solo_turns (machine_of p) (joined (test ∷ []) 0) (limits_of default_limits (test ∷ []) only_job) default_budget
+turns_of p test = solo_turns (machine_of p) (joined (test ∷ []) 0) (limits_for test) default_budget
 
 -- the test as the report counts it
 abbrev pub tested_with : Node → Outcome → Tested
@@ -47,7 +54,7 @@ text_with test outcome = test_text test.name test.expect (Some outcome) ++ summa
 abbrev pub report_text : Program → Node → List ℕ
 report_text p test = text_with test (outcome_of p test)
 
--- the status of a whole report: want of memory goes before a passed budget, and that before a failed expectation
+-- the status of a whole report: out of memory goes before a passed budget, and that before a failed expectation
 abbrev pub status_of_totals : Totals → ℕ
 status_of_totals totals =
     if nat_lt 0 totals.memory then 8

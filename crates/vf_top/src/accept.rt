@@ -42,12 +42,9 @@ fn is_option(word: &String) -> bool
 }
 
 /// Reads one of the two files.
+#[tactic(auto, using(crate::proofs::SeenLemmas::same_shelf))]
 fn fetch<S: Shelf>(alloc: Global, shelf: &mut S, name: &str, what: What) -> Result<Vec<u8>, Refusal>
-    ensures kept { S.holds shelf.new ≡ S.holds shelf.old }
-    ensures fetched { Fetched (λ bytes. bytes.items)
-        (record { holds = S.holds shelf.old; failed = S.failed shelf.old; faults = S.faults shelf.old })
-        (record { holds = S.holds shelf.new; failed = S.failed shelf.new; faults = S.faults shelf.new })
-        name.now what result }
+    ensures { Fetched (λ bytes. bytes.items) (S.seen shelf.old) (S.seen shelf.new) name.now what result }
 {
     let mut bytes = Vec::new(alloc);
     match shelf.fetch(name, what.limit(), &mut bytes) {
@@ -94,10 +91,7 @@ pub fn accept<S: Shelf>(
     words: &[String],
     shelf: &mut S,
 ) -> Result<(Design, Plan), Refusal>
-    ensures { Accepts (λ x. x.0) (λ x. x.1) (map string_bytes words.now)
-        (record { holds = S.holds shelf.old; failed = S.failed shelf.old; faults = S.faults shelf.old })
-        (record { holds = S.holds shelf.new; failed = S.failed shelf.new; faults = S.faults shelf.new })
-        result }
+    ensures { Accepts (λ x. x.0) (λ x. x.1) (map string_bytes words.now) (S.seen shelf.old) (S.seen shelf.new) result }
 {
     let Some((design_name, plan_name)) = files_in(words) else {
         return Err(Refusal::Words);

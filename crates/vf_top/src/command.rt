@@ -1,8 +1,9 @@
-ghost use Rattle.std.specs.Prelude.{◌≡◌, ◌+◌, ◌++◌, ◌^◌, ◌<◌, ◌≤◌, ◌↔◌, None, map};
+ghost use Rattle.std.specs.Prelude.{◌≡◌, ◌++◌, ◌^◌, ◌<◌, map};
 ghost use Rattle.std.specs.String.{string_bytes};
-ghost use Rattle.vf_top.specs.Words.{files_of};
-ghost use Rattle.vf_top.specs.Answer.{Output, Answers, WordsExact, LongDesign, WrongDesign, LongPlan, FaultyPlan, LargePlan, Complete, Tells};
-ghost use Rattle.vf_top.specs.Steps.{Ran, Writes};
+ghost use Rattle.vf_ports.specs.Sink.{SinkState};
+ghost use Rattle.vf_top.specs.Answer.{World, Answers};
+ghost use Rattle.vf_top.specs.Promise.{Promised};
+ghost use Rattle.vf_top.specs.Steps.{Ran, Tells, Writes};
 
 use crate::accept::accept;
 use crate::refusal::{Refusal, memory_line, plan_line};
@@ -10,14 +11,12 @@ use crate::report::{Lines, report};
 use std::alloc::Global;
 use std::sync::ledger::Ledger;
 use vf_base::Steps;
+use vf_early::laws::one_program;
 use vf_ports::{Shelf, Sink, put_all};
 
 /// Writes the report, a line at a time.
 fn write<K: Sink>(out: &mut K, lines: &Lines) -> Result<(), Refusal>
-    ensures { Writes
-        (record { written = K.written out.old; faults = K.faults out.old })
-        (record { written = K.written out.new; faults = K.faults out.new })
-        (lines.now.test.items ++ lines.now.summary.items) result }
+    ensures { Writes (K.seen out.old) (K.seen out.new) (lines.now.test.items ++ lines.now.summary.items) result }
 {
     let Ok(()) = put_all(out, &lines.test) else {
         return Err(Refusal::Write);
@@ -37,20 +36,10 @@ fn run<S: Shelf, K: Sink, L: Ledger>(
     steps: &mut Steps<L>,
 ) -> Result<u8, Refusal>
     requires { steps.old.count < 2 ^ 62 }
-    ensures ran { (err told : Output) → Ran (map string_bytes words.now)
-        (record {
-          shelf = record { holds = S.holds shelf.old; failed = S.failed shelf.old; faults = S.faults shelf.old };
-          out = record { written = K.written out.old; faults = K.faults out.old };
-          err = err;
-          steps = steps.old.count;
-        })
-        (record {
-          shelf = record { holds = S.holds shelf.new; failed = S.failed shelf.new; faults = S.faults shelf.new };
-          out = record { written = K.written out.new; faults = K.faults out.new };
-          err = told;
-          steps = steps.new.count;
-        })
-        result }
+    ensures ran { (err told : SinkState) →
+        let before : World = record { shelf = S.seen shelf.old; out = K.seen out.old; err = err; steps = steps.old } in
+        let after : World = record { shelf = S.seen shelf.new; out = K.seen out.new; err = told; steps = steps.new } in
+        Ran (map string_bytes words.now) before after result }
     ensures parts { steps.new.parts ≡ steps.old.parts }
 {
     let (design, plan) = accept(alloc, words, shelf)?;
@@ -61,13 +50,10 @@ fn run<S: Shelf, K: Sink, L: Ledger>(
     Ok(lines.status)
 }
 
-/// Writes the fault line of a refusal, and gives its status. Where memory for the line is wanting, that
-/// is what is told.
+/// Writes the fault line of a refusal, and gives its status. Where there is no memory for the line, that is
+/// what is told.
 fn tell<E: Sink>(alloc: Global, err: &mut E, refusal: Refusal) -> u8
-    ensures { Tells
-        (record { written = E.written err.old; faults = E.faults err.old })
-        (record { written = E.written err.new; faults = E.faults err.new })
-        refusal result }
+    ensures { Tells (E.seen err.old) (E.seen err.new) refusal result }
 {
     match refusal.line() {
         Ok(line) => {
@@ -97,20 +83,10 @@ fn answer<S: Shelf, K: Sink, E: Sink, L: Ledger>(
     steps: &mut Steps<L>,
 ) -> u8
     requires { steps.old.count < 2 ^ 62 }
-    ensures answer { Answers (map string_bytes words.now)
-        (record {
-          shelf = record { holds = S.holds shelf.old; failed = S.failed shelf.old; faults = S.faults shelf.old };
-          out = record { written = K.written out.old; faults = K.faults out.old };
-          err = record { written = E.written err.old; faults = E.faults err.old };
-          steps = steps.old.count;
-        })
-        (record {
-          shelf = record { holds = S.holds shelf.new; failed = S.failed shelf.new; faults = S.faults shelf.new };
-          out = record { written = K.written out.new; faults = K.faults out.new };
-          err = record { written = E.written err.new; faults = E.faults err.new };
-          steps = steps.new.count;
-        })
-        result }
+    ensures answer {
+        let before : World = record { shelf = S.seen shelf.old; out = K.seen out.old; err = E.seen err.old; steps = steps.old } in
+        let after : World = record { shelf = S.seen shelf.new; out = K.seen out.new; err = E.seen err.new; steps = steps.new } in
+        Answers (map string_bytes words.now) before after result }
     ensures parts { steps.new.parts ≡ steps.old.parts }
 {
     match run(alloc, words, shelf, out, steps) {
@@ -127,12 +103,12 @@ fn answer<S: Shelf, K: Sink, E: Sink, L: Ledger>(
 /// | 0 | the whole report was written to `out`, and nothing to `err`; none of 1, 5 and 8 stands in it |
 /// | 1 | a whole report: the bytes of a completed test differ from those that the plan expects |
 /// | 2 | exactly where the words are not two names of files |
-/// | 3 | exactly where the design's bytes are no early design |
-/// | 4 | exactly where the plan's bytes are no plan, or one of more than one node |
-/// | 5 | a whole report: the test's solo run touches more pages than the budget |
+/// | 3 | exactly where the bytes of the design are no early design |
+/// | 4 | exactly where the bytes of the plan are not a plan, or are one of more than one node |
+/// | 5 | a whole report: the solo run of the test touches more pages than the budget |
 /// | 6 | the shelf failed in this call, or exactly where a file is above its limit |
-/// | 7 | the output failed in this call; a prefix of the report went out |
-/// | 8 | want of memory; nothing was written to `out` |
+/// | 7 | the output failed in this call, and took a part of the report |
+/// | 8 | out of memory; nothing was written to `out` |
 ///
 /// They are tried in the order words, design read, design, plan read, plan, run, write. A refusal writes
 /// its fault line to `err`; a failing `err` changes nothing else.
@@ -145,110 +121,11 @@ pub fn command_here<S: Shelf, K: Sink, E: Sink, L: Ledger>(
     steps: &mut Steps<L>,
 ) -> u8
     requires { steps.old.count < 2 ^ 62 }
-
-    // The whole answer, and each refusal with its cause.
-    ensures answer { Answers (map string_bytes words.now)
-        (record {
-          shelf = record { holds = S.holds shelf.old; failed = S.failed shelf.old; faults = S.faults shelf.old };
-          out = record { written = K.written out.old; faults = K.faults out.old };
-          err = record { written = E.written err.old; faults = E.faults err.old };
-          steps = steps.old.count;
-        })
-        (record {
-          shelf = record { holds = S.holds shelf.new; failed = S.failed shelf.new; faults = S.faults shelf.new };
-          out = record { written = K.written out.new; faults = K.faults out.new };
-          err = record { written = E.written err.new; faults = E.faults err.new };
-          steps = steps.new.count;
-        })
-        result }
-    ensures parts { steps.new.parts ≡ steps.old.parts }
-
-    // The causes, the other way round.
-    ensures words { WordsExact (map string_bytes words.now) result }
-    ensures long_design { LongDesign (map string_bytes words.now)
-        (record {
-          shelf = record { holds = S.holds shelf.old; failed = S.failed shelf.old; faults = S.faults shelf.old };
-          out = record { written = K.written out.old; faults = K.faults out.old };
-          err = record { written = E.written err.old; faults = E.faults err.old };
-          steps = steps.old.count;
-        })
-        (record {
-          shelf = record { holds = S.holds shelf.new; failed = S.failed shelf.new; faults = S.faults shelf.new };
-          out = record { written = K.written out.new; faults = K.faults out.new };
-          err = record { written = E.written err.new; faults = E.faults err.new };
-          steps = steps.new.count;
-        })
-        result }
-    ensures wrong_design { WrongDesign (map string_bytes words.now)
-        (record {
-          shelf = record { holds = S.holds shelf.old; failed = S.failed shelf.old; faults = S.faults shelf.old };
-          out = record { written = K.written out.old; faults = K.faults out.old };
-          err = record { written = E.written err.old; faults = E.faults err.old };
-          steps = steps.old.count;
-        })
-        (record {
-          shelf = record { holds = S.holds shelf.new; failed = S.failed shelf.new; faults = S.faults shelf.new };
-          out = record { written = K.written out.new; faults = K.faults out.new };
-          err = record { written = E.written err.new; faults = E.faults err.new };
-          steps = steps.new.count;
-        })
-        result }
-    ensures long_plan { LongPlan (map string_bytes words.now)
-        (record {
-          shelf = record { holds = S.holds shelf.old; failed = S.failed shelf.old; faults = S.faults shelf.old };
-          out = record { written = K.written out.old; faults = K.faults out.old };
-          err = record { written = E.written err.old; faults = E.faults err.old };
-          steps = steps.old.count;
-        })
-        (record {
-          shelf = record { holds = S.holds shelf.new; failed = S.failed shelf.new; faults = S.faults shelf.new };
-          out = record { written = K.written out.new; faults = K.faults out.new };
-          err = record { written = E.written err.new; faults = E.faults err.new };
-          steps = steps.new.count;
-        })
-        result }
-    ensures faulty_plan { FaultyPlan (map string_bytes words.now)
-        (record {
-          shelf = record { holds = S.holds shelf.old; failed = S.failed shelf.old; faults = S.faults shelf.old };
-          out = record { written = K.written out.old; faults = K.faults out.old };
-          err = record { written = E.written err.old; faults = E.faults err.old };
-          steps = steps.old.count;
-        })
-        (record {
-          shelf = record { holds = S.holds shelf.new; failed = S.failed shelf.new; faults = S.faults shelf.new };
-          out = record { written = K.written out.new; faults = K.faults out.new };
-          err = record { written = E.written err.new; faults = E.faults err.new };
-          steps = steps.new.count;
-        })
-        result }
-    ensures large_plan { LargePlan (map string_bytes words.now)
-        (record {
-          shelf = record { holds = S.holds shelf.old; failed = S.failed shelf.old; faults = S.faults shelf.old };
-          out = record { written = K.written out.old; faults = K.faults out.old };
-          err = record { written = E.written err.old; faults = E.faults err.old };
-          steps = steps.old.count;
-        })
-        (record {
-          shelf = record { holds = S.holds shelf.new; failed = S.failed shelf.new; faults = S.faults shelf.new };
-          out = record { written = K.written out.new; faults = K.faults out.new };
-          err = record { written = E.written err.new; faults = E.faults err.new };
-          steps = steps.new.count;
-        })
-        result }
-    ensures complete { Complete (map string_bytes words.now)
-        (record {
-          shelf = record { holds = S.holds shelf.old; failed = S.failed shelf.old; faults = S.faults shelf.old };
-          out = record { written = K.written out.old; faults = K.faults out.old };
-          err = record { written = E.written err.old; faults = E.faults err.old };
-          steps = steps.old.count;
-        })
-        (record {
-          shelf = record { holds = S.holds shelf.new; failed = S.failed shelf.new; faults = S.faults shelf.new };
-          out = record { written = K.written out.new; faults = K.faults out.new };
-          err = record { written = E.written err.new; faults = E.faults err.new };
-          steps = steps.new.count;
-        })
-        result }
+    ensures {
+        let before : World = record { shelf = S.seen shelf.old; out = K.seen out.old; err = E.seen err.old; steps = steps.old } in
+        let after : World = record { shelf = S.seen shelf.new; out = K.seen out.new; err = E.seen err.new; steps = steps.new } in
+        Promised (map string_bytes words.now) before after result }
 {
+    one_program();
     answer(alloc, words, shelf, out, err, steps)
 }

@@ -14,6 +14,3 @@ mod report;
 
 pub use command::command_here;
 pub use refusal::{Refusal, What, memory_line, plan_line};
-
-#[cfg(test)]
-mod tests;

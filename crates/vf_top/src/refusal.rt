@@ -2,6 +2,7 @@ ghost use Rattle.std.specs.Prelude.{◌≡◌, ◌++◌, IfOk, IfErr, OnOk};
 ghost use Rattle.vf_top.specs.Fault.{fault_text, kind_text, node_text, status_of, limit_of};
 
 use std::alloc::Global;
+use thiserror::Error;
 use vf_base::{Memory, write_decimal};
 use vf_plan::{PlanFault, PlanKind};
 
@@ -12,24 +13,33 @@ pub enum What {
     Plan,
 }
 
-/// Why a command ended without its report.
-#[derive(Clone, Copy, Debug, PartialEq, Eq)]
+/// Why a command ended without its report. The program prints its fault lines ([`Refusal::line`]), and
+/// never the texts of `Display`.
+#[derive(Clone, Copy, Debug, PartialEq, Eq, Error)]
 pub enum Refusal {
     /// The words are not two names of files.
+    #[error("the words are not two names of files")]
     Words,
     /// The outside failed to give the file.
+    #[error("a file was not read: {0:?}")]
     Failed(What),
     /// The file is longer than its limit.
+    #[error("a file is above its limit: {0:?}")]
     TooLong(What),
-    /// The design is no early design.
+    /// The bytes of the design are no early design.
+    #[error("the design is not an early design")]
     DesignNotBuilt,
-    /// The bytes of the plan are none.
+    /// The bytes of the plan are not a plan.
+    #[error("the plan is refused: {0:?}")]
     WrongPlan(PlanFault),
     /// The plan has more than one node.
+    #[error("the plan has more than one node")]
     PlanNotBuilt,
     /// The output took less than the whole report.
+    #[error("the report was not written")]
     Write,
-    /// Want of memory.
+    /// Out of memory.
+    #[error("out of memory")]
     Memory,
 }
 
@@ -80,8 +90,8 @@ impl Refusal {
         }
     }
 
-    /// The fault line, where it is the same for each such refusal; it takes no memory, so that want of
-    /// memory can be told. Of a plan's fault the line is made by [`plan_line`].
+    /// The fault line, where it is the same for each such refusal; it takes no memory, so that out of
+    /// memory can be told. The line of a plan's fault is made by [`plan_line`].
     pub fn line(self) -> Result<&'static [u8], PlanFault>
         ensures line { IfOk result (λ line. line.now ≡ fault_text self) }
         ensures made { IfErr result (λ fault. self ≡ Refusal.WrongPlan fault) }
@@ -99,7 +109,7 @@ impl Refusal {
     }
 }
 
-/// The fault line of want of memory.
+/// The fault line of out of memory.
 pub fn memory_line() -> &'static [u8]
     ensures { result.now ≡ fault_text Refusal.Memory }
 {
@@ -123,7 +133,7 @@ fn kind_text(kind: PlanKind) -> &'static [u8]
     }
 }
 
-/// Tells the node at fault, where one is.
+/// Tells the node at fault, where there is one.
 fn write_node(node: Option<u32>, into: &mut Vec<u8>) -> Result<(), Memory>
     ensures { OnOk result (into.new.items ≡ into.old.items ++ node_text node) }
 {
@@ -134,7 +144,7 @@ fn write_node(node: Option<u32>, into: &mut Vec<u8>) -> Result<(), Memory>
     write_decimal(u64::from(node), into)
 }
 
-/// The fault line of a plan that is none.
+/// The fault line of bytes that are not a plan.
 pub fn plan_line(alloc: Global, fault: PlanFault) -> Result<Vec<u8>, Memory>
     ensures { IfOk result (λ line. line.items ≡ fault_text (Refusal.WrongPlan fault)) }
 {

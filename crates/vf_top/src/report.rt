@@ -1,14 +1,13 @@
 ghost use Rattle.std.specs.Prelude.{◌≡◌, ◌+◌, ◌++◌, ◌^◌, ◌<◌, ◌≤◌, [], ◌∷◌, length, option_map, IfOk, OnOk, Some};
 ghost use Rattle.vf_design.specs.Words.{machine_of};
-ghost use Rattle.vf_machine.specs.Alone.{turns_alone};
+ghost use Rattle.vf_machine.specs.Solo.{solo_turns};
 ghost use Rattle.vf_plan.specs.declared.plan.Node.{Node};
 ghost use Rattle.vf_plan.specs.Kinds.{outcome_of};
 ghost use Rattle.vf_plan.specs.Limits.{limits_of};
 ghost use Rattle.vf_plan.specs.Paths.{joined};
 ghost use Rattle.vf_report.specs.Tested as counts;
-ghost use Rattle.vf_top.specs.Report.{only_job, text_with, totals_with, report_text, report_status, status_of_totals, turns_of};
+ghost use Rattle.vf_top.specs.Report.{only_job, limits_for, text_with, totals_with, report_text, report_status, status_of_totals, turns_of};
 
-use crate::accept::SLOTS;
 use std::alloc::Global;
 use std::sync::ledger::Ledger;
 use vf_base::{Job, Limits, Memory, NodeNo, Outcome, Steps};
@@ -17,11 +16,10 @@ use vf_plan::{Node, Order, Plan, Setup, joined, limits_of};
 use vf_report::{Summary, summary_line, test_line};
 use vf_solo::solo;
 
-/// The limits of a test that has none of its own: turns, bytes written and event slots.
+/// The limits of a test that has none of its own: turns and bytes written.
 const LIMITS: Limits = Limits {
     turns: 1_000_000,
     output: 65_536,
-    slots: SLOTS,
 };
 
 /// The most pages that a test may touch.
@@ -76,7 +74,7 @@ fn lines_of(alloc: Global, test: &Node, outcome: &Outcome) -> Result<Lines, Memo
     })
 }
 
-/// Runs the plan's first test alone.
+/// Runs the plan's first test alone. Where it is out of memory, at most the test's limit of turns was counted.
 fn run_alone<L: Ledger>(
     alloc: Global,
     setup: &Setup,
@@ -87,8 +85,9 @@ fn run_alone<L: Ledger>(
     ensures outcome { IfOk result (λ outcome. outcome
         ≡ outcome_of (machine_of setup.now.design) setup.now.limits setup.now.budget setup.now.plan only_job) }
     ensures steps { OnOk result (steps.new.count ≡ steps.old.count
-        + turns_alone (machine_of setup.now.design) (joined setup.now.plan 0) (limits_of setup.now.limits setup.now.plan only_job) setup.now.budget) }
-    ensures moved { steps.old.count ≤ steps.new.count }
+        + solo_turns (machine_of setup.now.design) (joined setup.now.plan 0) (limits_of setup.now.limits setup.now.plan only_job) setup.now.budget) }
+    ensures moved { (steps.old.count ≤ steps.new.count)
+        × (steps.new.count ≤ steps.old.count + (limits_of setup.now.limits setup.now.plan only_job).turns) }
     ensures parts { steps.new.parts ≡ steps.old.parts }
 {
     let stimulus = joined(alloc, &setup.plan, NodeNo(0))?;
@@ -116,7 +115,8 @@ pub fn report<L: Ledger>(
         → lines.test.items ++ lines.summary.items ≡ report_text design test) }
     ensures status { IfOk result (λ lines. (test : Node) → plan ≡ test ∷ [] → lines.status ≡ report_status design test) }
     ensures steps { OnOk result ((test : Node) → plan ≡ test ∷ [] → steps.new.count ≡ steps.old.count + turns_of design test) }
-    ensures moved { steps.old.count ≤ steps.new.count }
+    ensures moved { (test : Node) → plan ≡ test ∷ []
+        → (steps.old.count ≤ steps.new.count) × (steps.new.count ≤ steps.old.count + (limits_for test).turns) }
     ensures parts { steps.new.parts ≡ steps.old.parts }
 {
     let setup = &Setup::new(alloc, design, plan, LIMITS, BUDGET, Order::Oldest)?;

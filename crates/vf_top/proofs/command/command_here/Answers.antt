@@ -1,24 +1,20 @@
 use Rattle.vf_top.proofs.ExactLemmas.{words_exact}
+use Rattle.vf_top.proofs.FileLemmas.{files_kept}
 use Rattle.vf_top.proofs.CauseLemmas.{long_design, wrong_design, long_plan, faulty_plan, large_plan, complete}
 use Rattle.vf_top.proofs.command.command_here.Goals as goal
 
-pub returns-clause-words : goal.returns-clause-words
-returns-clause-words g c = words_exact _ _ _ _ c.answer.ensures.answer
-
-pub returns-clause-long_design : goal.returns-clause-long_design
-returns-clause-long_design g c = long_design _ _ _ _ c.answer.ensures.answer
-
-pub returns-clause-wrong_design : goal.returns-clause-wrong_design
-returns-clause-wrong_design g c = wrong_design _ _ _ _ c.answer.ensures.answer
-
-pub returns-clause-long_plan : goal.returns-clause-long_plan
-returns-clause-long_plan g c = long_plan _ _ _ _ c.answer.ensures.answer
-
-pub returns-clause-faulty_plan : goal.returns-clause-faulty_plan
-returns-clause-faulty_plan g c = faulty_plan _ _ _ _ c.answer.ensures.answer
-
-pub returns-clause-large_plan : goal.returns-clause-large_plan
-returns-clause-large_plan g c = large_plan _ _ _ _ c.answer.ensures.answer
-
-pub returns-clause-complete : goal.returns-clause-complete
-returns-clause-complete g c = complete _ _ _ _ c.answer.ensures.answer
+pub returns : goal.returns
+returns g c =
+    let answer = c.answer.ensures.answer in
+    record {
+      answer = answer;
+      files = files_kept _ _ _ _ answer;
+      parts = c.answer.ensures.parts;
+      words_exact = words_exact _ _ _ _ answer;
+      long_design = long_design _ _ _ _ answer;
+      wrong_design = wrong_design _ _ _ _ answer;
+      long_plan = long_plan _ _ _ _ answer;
+      faulty_plan = faulty_plan _ _ _ _ answer;
+      large_plan = large_plan _ _ _ _ answer;
+      complete = complete c.one_program.ensures _ _ _ _ answer;
+    }

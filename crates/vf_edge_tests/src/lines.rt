@@ -1,9 +1,11 @@
+//! Lines of a report.
+
 ghost use Rattle.std.specs.Prelude.{◌≡◌, IfOk};
 
-use super::*;
 use std::alloc::{AllocError, Global};
 use std::test::Fail;
 use vf_base::{Ending, Outcome, Text};
+use vf_report::{Summary, summary_line, test_line};
 
 fn done(alloc: Global, ending: Ending, bytes: &[u8], turns: u64) -> Result<Outcome, AllocError>
     ensures { IfOk result (λ outcome. outcome ≡ Outcome.Done ending bytes.now turns) }

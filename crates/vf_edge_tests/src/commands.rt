@@ -1,18 +1,14 @@
-//! Whole commands over files and outputs in memory.
+//! What a command answers: reports, refusals and their lines.
 
-ghost use Rattle.std.specs.Prelude.{◌≡◌, ◌≤◌};
+ghost use Rattle.std.specs.Prelude.{◌≤◌};
 
-use crate::command_here;
+use crate::outside::{Answered, Outside, calm, counted, echo, files, names, one_node, owned, ran, text, told};
 use std::alloc::Global;
 use std::marker::Brand;
-use std::sync::ledger::{Blank, Ledger};
+use std::sync::ledger::Blank;
 use std::test::Fail;
-use vf_base::{Memory, Steps, Text};
-use vf_ports::{MemShelf, MemSink, Shelf, Sink, SureShelf, SureSink};
-
-fn echo() -> &'static str {
-    "module echo; integer c; initial begin c = $fgetc(32'h8000_0000); while (c != -1) begin $write(\"%c\", c); if (c == 10) $save(\"echo\"); c = $fgetc(32'h8000_0000); end $finish(0); end endmodule"
-}
+use vf_base::{Memory, Text};
+use vf_ports::{MemShelf, MemSink, SureShelf, SureSink};
 
 fn empty_design() -> &'static str {
     "module m; endmodule"
@@ -42,81 +38,15 @@ fn no_text_report() -> &'static str {
     "test t finish:0 turns 4 bytes 0 out - expect none\ntests 1 completed 1 met 0 failed 0 pages 0 memory 0 turns 4\n"
 }
 
-// Runs the command over a new counter of steps.
-fn counted<S: Shelf, K: Sink, E: Sink, L: Ledger>(
-    alloc: Global,
-    words: &[String],
-    shelf: &mut S,
-    out: &mut K,
-    err: &mut E,
-    blank: Blank,
-) -> u8
-    requires name { blank.name ≡ L.name }
-    requires parts { blank.parts ≡ L.parts }
+// An outside with a fetch and a write that fail, 0 for none, and outputs that take `most` bytes in one call.
+fn outside(fetch_fails: u64, write_fails: u64, most: usize) -> Outside
+    ensures { 1 ≤ most → 1 ≤ result.most }
 {
-    let (_, share) = blank.open::<L>();
-    let mut steps = Steps::new(share);
-    command_here(alloc, words, shelf, out, err, &mut steps)
-}
-
-fn owned(alloc: Global, words: &[&str]) -> Result<Vec<String>, Memory> {
-    let mut all = Vec::new(alloc);
-    for word in words {
-        all.push(String::from_str(alloc, word)?)?;
-    }
-    Ok(all)
-}
-
-fn text(alloc: Global, bytes: &str) -> Result<Text, Memory> {
-    Ok(Text::new(Vec::from_slice(alloc, bytes.as_bytes())?))
-}
-
-// The files "d.v" and "p.json".
-fn files(alloc: Global, design: &str, plan: &str) -> Result<Vec<(Text, Text)>, Memory> {
-    let mut files = Vec::new(alloc);
-    files.push((text(alloc, "d.v")?, text(alloc, design)?))?;
-    files.push((text(alloc, "p.json")?, text(alloc, plan)?))?;
-    Ok(files)
-}
-
-// A list of calls that fail: none where `call` is 0.
-fn failing(alloc: Global, call: u64) -> Result<Vec<u64>, Memory> {
-    let mut calls = Vec::new(alloc);
-    if call != 0 {
-        calls.push(call)?;
-    }
-    Ok(calls)
-}
-
-// What a command answered: its status, and what went to the output and to `err`.
-#[derive(Drop)]
-struct Answered {
-    status: u8,
-    out: MemSink,
-    err: MemSink,
-}
-
-// Runs the command on the words, where the fetch and the write of these numbers fail, and a write takes
-// `most` bytes at most.
-fn told(
-    alloc: Global,
-    words: &[&str],
-    files: Vec<(Text, Text)>,
-    fetch_fails: u64,
-    write_fails: u64,
-    most: usize,
-) -> Result<Answered, Memory>
-    requires { 1 ≤ most }
-{
-    let words = owned(alloc, words)?;
-    let mut shelf = MemShelf::new(alloc, files, failing(alloc, fetch_fails)?);
-    let mut out = MemSink::new(alloc, 4096, most, failing(alloc, write_fails)?)?;
-    let mut err = MemSink::new(alloc, 4096, most, Vec::new(alloc))?;
-    let blank = Blank::new(1);
-    let status = counted::<MemShelf, MemSink, MemSink, Brand>(
-        alloc, &words, &mut shelf, &mut out, &mut err, blank,
-    );
-    Ok(Answered { status, out, err })
+    let mut outside = calm();
+    outside.fetch_fails = fetch_fails;
+    outside.write_fails = write_fails;
+    outside.most = most;
+    outside
 }
 
 #[test]
@@ -124,20 +54,13 @@ fn the_echo_says_what_it_reads(rt: HostRuntime) -> Result<(), Fail> {
     for (plan, report) in [(hi(), hi_report()), (no_text(), no_text_report())] {
         for most in [4096usize, 1] {
             let files = files(rt.alloc(), echo(), plan)?;
-            let told = told(rt.alloc(), &["d.v", "p.json"], files, 0, 0, most)?;
+            let told = told(rt.alloc(), names(), files, outside(0, 0, most))?;
             assert_eq!(rt; told.status, 0);
             assert_eq!(rt; told.out.bytes(), report.as_bytes());
             assert_eq!(rt; told.err.bytes(), "".as_bytes());
         }
     }
     Ok(())
-}
-
-/// A plan of a version whose only node, the test `t`, has these members too.
-fn one_node(alloc: Global, version: u32, members: &str) -> Result<String, Memory> {
-    Ok(format!(in alloc;
-        "{{\"version\":{version},\"nodes\":[{{\"name\":\"t\",\"test\":true,{members}}}]}}"
-    )?)
 }
 
 fn met_counts() -> &'static str {
@@ -183,8 +106,7 @@ fn a_test_has_an_expectation_and_limits_of_its_own(rt: HostRuntime) -> Result<()
         ),
     ] {
         let plan = one_node(rt.alloc(), version, members)?;
-        let files = files(rt.alloc(), echo(), plan.as_str())?;
-        let told = told(rt.alloc(), &["d.v", "p.json"], files, 0, 0, 4096)?;
+        let told = ran(rt.alloc(), echo(), plan.as_str())?;
         let report = format!(in rt.alloc(); "test t {line}\n{counts}")?;
         assert_eq!(rt; told.out.bytes(), report.as_bytes());
         assert_eq!(rt; told.status, status, "at {line}");
@@ -195,7 +117,7 @@ fn a_test_has_an_expectation_and_limits_of_its_own(rt: HostRuntime) -> Result<()
 
 #[rattlefmt::skip]
 #[test]
-fn a_plan_that_is_none_tells_its_first_fault(rt: HostRuntime) -> Result<(), Fail> {
+fn bytes_that_are_not_a_plan_tell_their_first_fault(rt: HostRuntime) -> Result<(), Fail> {
     for (plan, line) in [
         (
             r#"{"version":1,"nodes":[{"name":"a","text":"x","after":"b","test":true},{"name":"b","text":"y"}]}"#,
@@ -212,8 +134,7 @@ fn a_plan_that_is_none_tells_its_first_fault(rt: HostRuntime) -> Result<(), Fail
         (r#"{"version":1,"nodes":[{"name":"t","hex":"0","test":true}]}"#, "vfarm: plan: 7 BadHex at node 0\n"),
         (r#"{"version":1,"nodes":[{"name":"t","text":"","test":true},{"name":"u","text":""}]}"#, "vfarm: plan: 11 NotBuilt\n"),
     ] {
-        let files = files(rt.alloc(), echo(), plan)?;
-        let told = told(rt.alloc(), &["d.v", "p.json"], files, 0, 0, 4096)?;
+        let told = ran(rt.alloc(), echo(), plan)?;
         assert_eq!(rt; told.status, 4, "at {line}");
         assert_eq!(rt; told.out.bytes(), "".as_bytes(), "at {line}");
         assert_eq!(rt; told.err.bytes(), line.as_bytes(), "at {line}");
@@ -233,8 +154,7 @@ fn each_refusal_tells_its_cause(rt: HostRuntime) -> Result<(), Fail> {
         (empty_design(), "{", 3, "vfarm: design: early 1 NotBuilt\n"),
         (echo(), two_nodes(), 4, "vfarm: plan: 11 NotBuilt\n"),
     ] {
-        let files = files(rt.alloc(), design, plan)?;
-        let told = told(rt.alloc(), &["d.v", "p.json"], files, 0, 0, 4096)?;
+        let told = ran(rt.alloc(), design, plan)?;
         assert_eq!(rt; told.status, status, "at {line}");
         assert_eq!(rt; told.out.bytes(), "".as_bytes(), "at {line}");
         assert_eq!(rt; told.err.bytes(), line.as_bytes(), "at {line}");
@@ -253,7 +173,7 @@ fn words_are_two_names(rt: HostRuntime) -> Result<(), Fail> {
     ];
     for words in words {
         let files = files(rt.alloc(), echo(), hi())?;
-        let told = told(rt.alloc(), words, files, 0, 0, 4096)?;
+        let told = told(rt.alloc(), words, files, calm())?;
         assert_eq!(rt; told.status, 2);
         assert_eq!(rt; told.out.bytes(), "".as_bytes());
         assert_eq!(rt; told.err.bytes(), "vfarm: words: 1 Refused\n".as_bytes());
@@ -271,7 +191,7 @@ fn a_fetch_that_fails_is_named(rt: HostRuntime) -> Result<(), Fail> {
         ("d.v", "", 0, "vfarm: read: plan failed\n"),
     ] {
         let files = files(rt.alloc(), echo(), hi())?;
-        let told = told(rt.alloc(), &[design, plan], files, fails, 0, 4096)?;
+        let told = told(rt.alloc(), &[design, plan], files, outside(fails, 0, 4096))?;
         assert_eq!(rt; told.status, 6, "at {line}");
         assert_eq!(rt; told.out.bytes(), "".as_bytes(), "at {line}");
         assert_eq!(rt; told.err.bytes(), line.as_bytes(), "at {line}");
@@ -281,7 +201,7 @@ fn a_fetch_that_fails_is_named(rt: HostRuntime) -> Result<(), Fail> {
 
 #[test]
 fn a_design_above_its_limit_is_not_read(rt: HostRuntime) -> Result<(), Fail> {
-    // At the limit the blanks are read, and are no design.
+    // At the limit the blanks are read, and are not a design.
     for (blanks, status, line) in [
         (1_048_576usize, 3u8, "vfarm: design: early 1 NotBuilt\n"),
         (1_048_577, 6, "vfarm: read: design too long 1048577\n"),
@@ -290,7 +210,7 @@ fn a_design_above_its_limit_is_not_read(rt: HostRuntime) -> Result<(), Fail> {
         design.resize(blanks, b' ')?;
         let mut files = Vec::new(rt.alloc());
         files.push((text(rt.alloc(), "d.v")?, Text::new(design)))?;
-        let told = told(rt.alloc(), &["d.v", "p.json"], files, 0, 0, 4096)?;
+        let told = told(rt.alloc(), names(), files, calm())?;
         assert_eq!(rt; told.status, status);
         assert_eq!(rt; told.out.bytes(), "".as_bytes());
         assert_eq!(rt; told.err.bytes(), line.as_bytes());
@@ -302,7 +222,7 @@ fn a_design_above_its_limit_is_not_read(rt: HostRuntime) -> Result<(), Fail> {
 fn a_write_that_fails_ends_the_report(rt: HostRuntime) -> Result<(), Fail> {
     for (fails, out) in [(1u64, ""), (2, hi_test())] {
         let files = files(rt.alloc(), echo(), hi())?;
-        let told = told(rt.alloc(), &["d.v", "p.json"], files, 0, fails, 4096)?;
+        let told = told(rt.alloc(), names(), files, outside(0, fails, 4096))?;
         assert_eq!(rt; told.status, 7);
         assert_eq!(rt; told.out.bytes(), out.as_bytes());
         assert_eq!(rt; told.err.bytes(), "vfarm: write failed\n".as_bytes());
@@ -312,7 +232,7 @@ fn a_write_that_fails_ends_the_report(rt: HostRuntime) -> Result<(), Fail> {
 
 // Runs the empty design with an `err` that has no room.
 fn refused_in_silence(alloc: Global) -> Result<Answered, Memory> {
-    let words = owned(alloc, &["d.v", "p.json"])?;
+    let words = owned(alloc, names())?;
     let mut shelf = MemShelf::new(alloc, files(alloc, empty_design(), hi())?, Vec::new(alloc));
     let mut out = MemSink::new(alloc, 4096, 4096, Vec::new(alloc))?;
     let mut err = MemSink::new(alloc, 0, 4096, Vec::new(alloc))?;
@@ -334,7 +254,7 @@ fn an_err_that_fails_changes_nothing(rt: HostRuntime) -> Result<(), Fail> {
 
 // Runs the echo where nothing outside can fail.
 fn surely(alloc: Global) -> Result<u8, Memory> {
-    let words = owned(alloc, &["d.v", "p.json"])?;
+    let words = owned(alloc, names())?;
     let mut shelf = SureShelf::new(files(alloc, echo(), hi())?);
     let mut out = SureSink::new();
     let mut err = SureSink::new();

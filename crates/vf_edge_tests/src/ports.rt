@@ -1,7 +1,9 @@
-use crate::{MemShelf, MemSink, Shelf, ShelfRefusal, SinkFailed, SureShelf, SureSink, put_all};
+//! Shelves and sinks in memory.
+
 use std::alloc::{AllocError, Global};
 use std::test::Fail;
 use vf_base::Text;
+use vf_ports::{MemShelf, MemSink, Shelf, ShelfRefusal, SinkFailed, SureShelf, SureSink, put_all};
 
 fn text(alloc: Global, bytes: &[u8]) -> Result<Text, AllocError> {
     Ok(Text::new(Vec::from_slice(alloc, bytes)?))
