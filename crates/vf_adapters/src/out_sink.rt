@@ -29,6 +29,12 @@ impl Telling for Vec<u8> {
     ghost steady = { λ _. refl };
 }
 
+impl<W: Telling> Telling for &mut W {
+    ghost tells = { W.tells };
+
+    ghost steady = { λ w. W.steady w.now };
+}
+
 /// A writer as an output. It tells the bytes that the writer tells, and counts a fault where a write fails or
 /// takes nothing of a piece that has a byte.
 #[derive(Drop)]

@@ -1,26 +1,31 @@
 //! The program `vfarm`: it makes the real files, outputs and step counter, and hands them to the top
 //! call.
 //!
-//! It stands on vf_base, vf_ports and vf_top. All that it does is `command_here`; here is only what
-//! that call is given.
+//! It stands on vf_base, vf_ports, vf_adapters and vf_top. All that it does is `command_here`; here is only
+//! what that call is given, and what is told where there are no words to give it.
 #![tactic(auto)]
 
 ghost use Rattle.std.specs.Prelude.{◌≡◌};
 
-mod adapters;
-
-use adapters::{FileShelf, OutSink};
 use std::env;
 use std::io::{self, ErrorKind};
 use std::marker::Brand;
 use std::process::ExitCode;
+use std::rt::{Env, Files};
 use std::sync::ledger::{Blank, Ledger};
+use vf_adapters::{FileShelf, OutSink, Telling};
 use vf_base::Steps;
 use vf_ports::put_all;
 use vf_top::{Refusal, command_here};
 
 /// Runs the program over a new counter of steps.
-fn counted<L: Ledger>(rt: &HostRuntime, words: &[String], blank: Blank) -> u8
+fn counted<R: Files + AllocGlobal, O: Telling, E: Telling, L: Ledger>(
+    rt: &R,
+    words: &[String],
+    out: &mut O,
+    err: &mut E,
+    blank: Blank,
+) -> u8
     requires name { blank.name ≡ L.name }
     requires parts { blank.parts ≡ L.parts }
 {
@@ -30,14 +35,14 @@ fn counted<L: Ledger>(rt: &HostRuntime, words: &[String], blank: Blank) -> u8
         rt.alloc(),
         words,
         &mut FileShelf::new(rt),
-        &mut OutSink::new(rt.stdout()),
-        &mut OutSink::new(rt.stderr()),
+        &mut OutSink::new(out),
+        &mut OutSink::new(err),
         &mut steps,
     )
 }
 
-/// The words of the command line, without the program's name.
-fn words(rt: &HostRuntime) -> io::Result<Vec<String>> {
+/// The words of the command line, without the program's name. One that is not UTF-8 is an error.
+fn words<R: Env + AllocGlobal>(rt: &R) -> io::Result<Vec<String>> {
     let mut words = Vec::new(rt.alloc());
     for word in env::args(rt)?.skip(1) {
         words.push(word)?;
@@ -46,19 +51,31 @@ fn words(rt: &HostRuntime) -> io::Result<Vec<String>> {
 }
 
 /// Tells a refusal that comes before the top call has its words.
-fn refuse(rt: &HostRuntime, refusal: Refusal) -> u8 {
+fn refuse<E: Telling>(err: &mut E, refusal: Refusal) -> u8 {
     if let Ok(line) = refusal.line() {
-        let _ = put_all(&mut OutSink::new(rt.stderr()), line);
+        let _ = put_all(&mut OutSink::new(err), line);
     }
     refusal.status()
 }
 
-fn main(rt: HostRuntime) -> ExitCode {
-    let status = match words(&rt) {
-        Ok(words) => counted::<Brand>(&rt, &words, Blank::new(1)),
-        Err(error) if error.kind() == ErrorKind::OutOfMemory => refuse(&rt, Refusal::Memory),
-        // a word that is no UTF-8
-        Err(_) => refuse(&rt, Refusal::Words),
-    };
-    ExitCode::from(status)
+/// Runs the program on the words of its command line, and gives the status that it ends with.
+fn program<R: Files + AllocGlobal, O: Telling, E: Telling>(
+    rt: &R,
+    words: io::Result<Vec<String>>,
+    out: &mut O,
+    err: &mut E,
+) -> u8 {
+    match words {
+        Ok(words) => counted::<R, O, E, Brand>(rt, &words, out, err, Blank::new(1)),
+        Err(error) if error.kind() == ErrorKind::OutOfMemory => refuse(err, Refusal::Memory),
+        // a word that is not UTF-8
+        Err(_) => refuse(err, Refusal::Words),
+    }
 }
+
+fn main(rt: HostRuntime) -> ExitCode {
+    ExitCode::from(program(&rt, words(&rt), &mut rt.stdout(), &mut rt.stderr()))
+}
+
+#[cfg(test)]
+mod tests;
