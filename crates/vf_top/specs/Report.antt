@@ -8,8 +8,8 @@ use Rattle.vf_machine.specs.Solo.{solo_turns}
 use Rattle.vf_design.specs.Program.{Program}
 use Rattle.vf_design.specs.Words.{machine_of}
 use Rattle.vf_plan.specs.declared.plan.Node.{Node}
-use Rattle.vf_plan.specs.Kinds as kinds
-use Rattle.vf_plan.specs.Limits.{limits_of}
+use Rattle.vf_jobs.specs.Kinds as kinds
+use Rattle.vf_jobs.specs.Limits.{limits_of}
 use Rattle.vf_plan.specs.Paths.{joined}
 use Rattle.vf_report.specs.Tested.{Tested}
 use Rattle.vf_report.specs.Totals.{Totals, summary_of}

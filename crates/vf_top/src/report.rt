@@ -2,8 +2,8 @@ ghost use Rattle.std.specs.Prelude.{◌≡◌, ◌+◌, ◌++◌, ◌^◌, ◌<�
 ghost use Rattle.vf_design.specs.Words.{machine_of};
 ghost use Rattle.vf_machine.specs.Solo.{solo_turns};
 ghost use Rattle.vf_plan.specs.declared.plan.Node.{Node};
-ghost use Rattle.vf_plan.specs.Kinds.{outcome_of};
-ghost use Rattle.vf_plan.specs.Limits.{limits_of};
+ghost use Rattle.vf_jobs.specs.Kinds.{outcome_of};
+ghost use Rattle.vf_jobs.specs.Limits.{limits_of};
 ghost use Rattle.vf_plan.specs.Paths.{joined};
 ghost use Rattle.vf_report.specs.Tested as counts;
 ghost use Rattle.vf_top.specs.Report.{only_job, limits_for, text_with, totals_with, report_text, report_status, status_of_totals, turns_of};
@@ -12,7 +12,8 @@ use std::alloc::Global;
 use std::sync::ledger::Ledger;
 use vf_base::{Job, Limits, Memory, NodeNo, Outcome, Steps};
 use vf_design::Design;
-use vf_plan::{Node, Order, Plan, Setup, joined, limits_of};
+use vf_jobs::{Order, Setup, limits_of};
+use vf_plan::{Node, Plan, joined};
 use vf_report::{Summary, summary_line, test_line};
 use vf_solo::solo;
 

@@ -1,8 +1,8 @@
 use Rattle.std.proofs.Common.{◌≡◌, ◌∙◌, ap, get_or}
 use Rattle.vf_design.specs.Words.{machine_of}
-use Rattle.vf_plan.specs.declared.setup.Setup.TheInside.{Inside}
-use Rattle.vf_plan.specs.Kinds.{outcome_of}
-use Rattle.vf_plan.specs.Setup.{Conditions}
+use Rattle.vf_jobs.specs.declared.setup.Setup.TheInside.{Inside}
+use Rattle.vf_jobs.specs.Kinds.{outcome_of}
+use Rattle.vf_jobs.specs.Setup.{Conditions}
 use Rattle.vf_top.specs.Report as one
 use Rattle.vf_top.proofs.WriteLemmas.{report_told, report_ends}
 use Rattle.vf_top.proofs.report.report.Goals as goal
