@@ -1,5 +1,8 @@
--- The name that the lexeme's crate finds is the one of the definitions.
-use Rattle.std.proofs.Common.{◌≡◌, ℕ, List, [], ◌∷◌, ◌++◌, refl, ap}
+-- Names: which are the same, and that the name that the lexeme's crate finds is the one of the definitions.
+use Rattle.std.proofs.Common.{◌≡◌, ◌≢◌, ℕ, false, List, [], ◌∷◌, ◌++◌, length, refl, ap, sym, inl, inr}
+use Rattle.std.specs.Str.{bytes_eq}
+use Rattle.std.proofs.lemmas.Bool.{cases_Bool}
+use Rattle.std.proofs.lemmas.Slice.Eq.{bytes_eq-Decides}
 use Rattle.std.proofs.Math.Seq.{drop-append_seam}
 use Rattle.vf_lexeme.specs.Bytes.{begins_name, is_name_byte, Ends}
 use Rattle.vf_lexeme.specs.Words.{IsName, IsNameAt, named as named_case, unnamed}
@@ -23,3 +26,9 @@ named text name rest (unnamed ends e _) = rw (e, no_front text ends) refl
 pub behind : (text name rest : List ℕ) → IsNameAt text name rest → rest ≡ behind_name text
 behind text name rest (named_case is ends e) = rw (e, front_of name rest is ends, drop-append_seam name rest) refl
 behind text name rest (unnamed ends e e2) = rw (e2, no_front text ends) refl
+
+pub lengths_differ : (a b : List ℕ) → length a ≢ length b → false ≡ bytes_eq a b
+lengths_differ a b h = elim (cases_Bool (bytes_eq a b)) [
+  | inl is ↦ absurd (h (ap length ((bytes_eq-Decides a b).0 is)))
+  | inr other ↦ sym other
+]

@@ -1,18 +1,18 @@
 -- A text is read in one way.
-use Rattle.std.proofs.Common.{◌≡◌, ℕ, ◌<◌, ◌≤◌, List, length, Some, ap, sym, subst, ◌∙◌, arith}
+use Rattle.std.proofs.Common.{◌≡◌, ℕ, ◌<◌, List, length, None, Some, ap, sym, subst, ◌∙◌, arith}
 use Rattle.std.proofs.lemmas.Bool.{both_ways}
 use Rattle.vf_base.specs.declared.names.Place.{Place}
 use Rattle.vf_lexeme.specs.Laws.{BeginsOnce, PassesOnce}
 use Rattle.vf_macro.specs.Laws.{MacroTextsOnce}
 use Rattle.vf_macro.specs.MacroText.{IsMacroText}
 use Rattle.vf_lex.specs.declared.fault.LexFault.{LexFault}
-use Rattle.vf_lex.specs.declared.fault.LexKind.TheVariants.{MacroDepth}
+use Rattle.vf_lex.specs.declared.fault.LexKind.{LexKind}
 use Rattle.vf_lex.specs.declared.spot.Spot.{Spot}
-use Rattle.vf_lex.specs.Around.{Around, End, Ended, Stopped, is_taken, with_macro}
+use Rattle.vf_lex.specs.Around.{Around, End, Ended, Stopped, is_taken, with_macro, with_use}
 use Rattle.vf_lex.specs.Directives.{Effect, Goes, Defines, Uses, Stops}
 use Rattle.vf_lex.specs.Elements.{taken_effect, passed_effect, Does, taken, passed}
 use Rattle.vf_lex.specs.Places.{moved, nested, before}
-use Rattle.vf_lex.specs.Reads.{fault_at, Reads, ends, goes, defines, uses, use_stops, too_deep, stops}
+use Rattle.vf_lex.specs.Reads.{fault_at, use_fault, Reads, ends, goes, defines, uses, use_stops, use_refused, stops}
 
 module _ (begins : BeginsOnce) (passes : PassesOnce) (macro_texts : MacroTextsOnce) where
   does_once : (place : Place) (now : Around) (text : List ℕ) (one other : Effect) → Does place now text one
@@ -26,11 +26,12 @@ module _ (begins : BeginsOnce) (passes : PassesOnce) (macro_texts : MacroTextsOn
 
   -- how the reading goes on behind the use of a macro
   data AfterUse (spot : Spot) (now : Around) (text body rest : List ℕ) (end : End) : Type 0 where
-    used : (next : Around) → spot.depth < 16 → Reads (nested spot) now body (Ended next)
+    used : (next : Around) → use_fault spot now body ≡ None → Reads (nested spot) (with_use now body) body (Ended next)
         → Reads (moved spot (before text rest)) next rest end → AfterUse spot now text body rest end
-    stopped : (fault : LexFault) → spot.depth < 16 → Reads (nested spot) now body (Stopped fault) → end ≡ Stopped fault
+    stopped : (fault : LexFault) → use_fault spot now body ≡ None → Reads (nested spot) (with_use now body) body (Stopped fault)
+        → end ≡ Stopped fault → AfterUse spot now text body rest end
+    refused : (kind : LexKind) → use_fault spot now body ≡ Some kind → end ≡ Stopped (fault_at kind spot)
         → AfterUse spot now text body rest end
-    deep : 16 ≤ spot.depth → end ≡ Stopped (fault_at MacroDepth spot) → AfterUse spot now text body rest end
 
   -- how the reading goes on behind an element of this effect
   abbrev Follows : Spot → Around → List ℕ → End → Effect → Type 0
@@ -49,12 +50,12 @@ module _ (begins : BeginsOnce) (passes : PassesOnce) (macro_texts : MacroTextsOn
       (does_once spot.place now text _ _ e d) r
   follows spot now text end effect some d (defines name bytes body rest _ e s r) = subst (λ f. Follows spot now text end f)
       (does_once spot.place now text _ _ e d) (body, rest, s, r)
-  follows spot now text end effect some d (uses body rest next _ e lt inner r) = subst (λ f. Follows spot now text end f)
-      (does_once spot.place now text _ _ e d) (used next lt inner r)
-  follows spot now text end effect some d (use_stops body rest fault _ e lt inner is) = subst
-      (λ f. Follows spot now text end f) (does_once spot.place now text _ _ e d) (stopped fault lt inner is)
-  follows spot now text end effect some d (too_deep body rest _ e deep_here is) = subst (λ f. Follows spot now text end f)
-      (does_once spot.place now text _ _ e d) (deep deep_here is)
+  follows spot now text end effect some d (uses body rest next _ e none inner r) = subst (λ f. Follows spot now text end f)
+      (does_once spot.place now text _ _ e d) (used next none inner r)
+  follows spot now text end effect some d (use_stops body rest fault _ e none inner is) = subst
+      (λ f. Follows spot now text end f) (does_once spot.place now text _ _ e d) (stopped fault none inner is)
+  follows spot now text end effect some d (use_refused body rest kind _ e why is) = subst (λ f. Follows spot now text end f)
+      (does_once spot.place now text _ _ e d) (refused kind why is)
   follows spot now text end effect some d (stops kind _ e is) = subst (λ f. Follows spot now text end f)
       (does_once spot.place now text _ _ e d) is
 
@@ -62,9 +63,9 @@ module _ (begins : BeginsOnce) (passes : PassesOnce) (macro_texts : MacroTextsOn
   at_end spot now text end none (ends _ is) = is
   at_end spot now text end none (goes next rest some e r) = absurd (omega (arith, some, none))
   at_end spot now text end none (defines name bytes body rest some e s r) = absurd (omega (arith, some, none))
-  at_end spot now text end none (uses body rest next some e lt inner r) = absurd (omega (arith, some, none))
-  at_end spot now text end none (use_stops body rest fault some e lt inner is) = absurd (omega (arith, some, none))
-  at_end spot now text end none (too_deep body rest some e deep_here is) = absurd (omega (arith, some, none))
+  at_end spot now text end none (uses body rest next some e fits inner r) = absurd (omega (arith, some, none))
+  at_end spot now text end none (use_stops body rest fault some e fits inner is) = absurd (omega (arith, some, none))
+  at_end spot now text end none (use_refused body rest kind some e why is) = absurd (omega (arith, some, none))
   at_end spot now text end none (stops kind some e is) = absurd (omega (arith, some, none))
 
   pub reads_once : {spot : Spot} {now : Around} {text : List ℕ} {one other : End} → Reads spot now text one
@@ -79,26 +80,28 @@ module _ (begins : BeginsOnce) (passes : PassesOnce) (macro_texts : MacroTextsOn
       subst (λ b. Reads (moved spot (before text rest)) (with_macro now name (Some b)) rest other) same.0
       (subst (λ u. Reads (moved spot (before text u)) (with_macro now name (Some f.0)) u other) same.1 f.3) in
       reads_once r again
-  reads_once {spot} {now} {text} {other} (uses body rest next some d lt inner r) s =
+  reads_once {spot} {now} {text} {other} (uses body rest next some d fits inner r) s =
       elim (follows spot now text other (Uses body rest) some d s) [
         | used next_2 _ inner_2 r_2 ↦
             let ended : Ended next ≡ Ended next_2 = reads_once inner inner_2 in
             let same : next_2 ≡ next = cc in
             reads_once r (subst (λ n. Reads (moved spot (before text rest)) n rest other) same r_2)
         | stopped fault _ inner_2 is ↦ let ended : Ended next ≡ Stopped fault = reads_once inner inner_2 in absurd cc
-        | deep here is ↦ absurd (omega (arith, here, lt))
+        | refused kind why is ↦ absurd cc
       ]
-  reads_once {spot} {now} {text} {other} (use_stops body rest fault some d lt inner is) s =
+  reads_once {spot} {now} {text} {other} (use_stops body rest fault some d fits inner is) s =
       elim (follows spot now text other (Uses body rest) some d s) [
         | used next _ inner_2 r_2 ↦ let ended : Stopped fault ≡ Ended next = reads_once inner inner_2 in absurd cc
         | stopped fault_2 _ inner_2 is_2 ↦ let ended : Stopped fault ≡ Stopped fault_2 = reads_once inner inner_2 in is
             ∙ ended ∙ sym is_2
-        | deep here is_2 ↦ absurd (omega (arith, here, lt))
+        | refused kind why is_2 ↦ absurd cc
       ]
-  reads_once {spot} {now} {text} {other} (too_deep body rest some d here is) s =
+  reads_once {spot} {now} {text} {other} (use_refused body rest kind some d why is) s =
       elim (follows spot now text other (Uses body rest) some d s) [
-        | used next lt inner r ↦ absurd (omega (arith, here, lt))
-        | stopped fault lt inner is_2 ↦ absurd (omega (arith, here, lt))
-        | deep _ is_2 ↦ is ∙ sym is_2
+        | used next fits inner r ↦ absurd cc
+        | stopped fault fits inner is_2 ↦ absurd cc
+        | refused kind_2 why_2 is_2 ↦
+            let same : kind ≡ kind_2 = cc in
+            is ∙ ap (λ k. Stopped (fault_at k spot)) same ∙ sym is_2
       ]
   reads_once {spot} {now} {text} {other} (stops kind some d is) s = is ∙ sym (follows spot now text other (Stops kind) some d s)

@@ -1,5 +1,5 @@
 -- What the elements at the front of a text lead to.
-use Rattle.std.proofs.Common.{◌≡◌, ℕ, zero, suc, ◌==◌, ◌<◌, ◌≤◌, true, false, List, length, Some, Result, Ok, Err, refl, ap, sym, subst, ◌∙◌, arith}
+use Rattle.std.proofs.Common.{◌≡◌, ℕ, zero, suc, ◌==◌, ◌<◌, true, false, List, length, None, Some, Result, Ok, Err, refl, ap, sym, subst, ◌∙◌, arith}
 use Rattle.vf_base.specs.declared.names.Place.{Place}
 use Rattle.vf_lexeme.specs.declared.kinds.Lexeme.{Lexeme}
 use Rattle.vf_lexeme.specs.declared.kinds.LexemeFault.{LexemeFault}
@@ -10,13 +10,12 @@ use Rattle.vf_lexeme.specs.Lexemes.{Begins, Passes, Refuses}
 use Rattle.vf_macro.specs.MacroText.{IsMacroText}
 use Rattle.vf_lex.specs.declared.directive.Step.{Step}
 use Rattle.vf_lex.specs.declared.fault.LexKind.{LexKind}
-use Rattle.vf_lex.specs.declared.fault.LexKind.TheVariants.{MacroDepth}
 use Rattle.std.proofs.lemmas.Bool.{eqb-true}
 use Rattle.vf_lex.specs.declared.fault.LexFault.{LexFault}
 use Rattle.vf_lex.specs.declared.spot.Spot.{Spot}
-use Rattle.vf_lex.specs.Around.{Around, End, Ended, Stopped, is_taken, with_macro}
+use Rattle.vf_lex.specs.Around.{Around, End, Ended, Stopped, is_taken, with_macro, with_use}
 use Rattle.vf_lex.specs.Places.{moved, nested, before}
-use Rattle.vf_lex.specs.Reads.{Reads, fault_at, goes, defines, uses, use_stops, too_deep, stops}
+use Rattle.vf_lex.specs.Reads.{Reads, fault_at, use_fault, goes, defines, uses, use_stops, use_refused, stops}
 use Rattle.vf_lex.specs.Answers.{Gives, DoesSo, FailsWith, Carries, StopsAt, seen}
 use Rattle.vf_lex.specs.Directives.{Effect, Goes, Defines, Uses, Stops}
 use Rattle.vf_lex.specs.Elements.{kind_of, open_kind, taken_effect, passed_effect, Does, taken, passed}
@@ -96,25 +95,42 @@ defines_on spot now mid next text name bytes rest some d kept made end r =
     let next_is : next ≡ with_macro now name (Some made.0) = made.2 ∙ ap (λ a. with_macro a name (Some made.0)) kept in
     defines name bytes made.0 rest some d made.1 (subst (λ a. Reads (moved spot (before text rest)) a rest end) next_is r)
 
-pub uses_on : (spot within : Spot) (now mid next : Around) (text body rest : List ℕ)
-    → 0 < length text → Does spot.place now text (Uses body rest) → mid ≡ now → spot.depth < 16
-    → within ≡ nested spot → Reads within mid body (Ended next) → Carries spot now text (moved spot (before text rest)) next rest
-uses_on spot within now mid next text body rest some d kept lt is inner end r =
-    uses body rest next some d lt (subst (λ a. Reads (nested spot) a body (Ended next)) kept
-    (subst (λ s. Reads s mid body (Ended next)) is inner)) r
+-- a use of a macro whose text is read, counted and nested by the code
+pub record IsEntered (spot within : Spot) (now mid counted : Around) (body : List ℕ) : Type 0 where
+  pub kept : mid ≡ now
+  pub fits : use_fault spot mid body ≡ None
+  pub counts : counted ≡ with_use mid body
+  pub nests : within ≡ nested spot
 
-pub use_fails : (spot within : Spot) (now mid : Around) (text body rest : List ℕ) (fault : LexFault)
-    → 0 < length text → Does spot.place now text (Uses body rest) → mid ≡ now → spot.depth < 16
-    → within ≡ nested spot → StopsAt fault within mid body → StopsAt fault spot now text
-use_fails spot within now mid text body rest fault some d kept lt is inner known =
-    use_stops body rest fault some d lt
-    (subst (λ a. Reads (nested spot) a body (Stopped fault)) kept
-    (subst (λ s. Reads s mid body (Stopped fault)) is (inner known))) refl
+entered_fits : (spot within : Spot) (now mid counted : Around) (body : List ℕ) → IsEntered spot within now mid counted body
+    → use_fault spot now body ≡ None
+entered_fits spot within now mid counted body e = subst (λ a. use_fault spot a body ≡ None) e.kept e.fits
 
-pub use_too_deep : (spot : Spot) (now : Around) (text body rest : List ℕ) (fault : LexFault)
-    → 0 < length text → Does spot.place now text (Uses body rest) → 16 ≤ spot.depth
-    → fault ≡ fault_at MacroDepth spot → StopsAt fault spot now text
-use_too_deep spot now text body rest fault some d deep is known = too_deep body rest some d deep (ap Stopped is)
+entered_reads : (spot within : Spot) (now mid counted : Around) (body : List ℕ) (end : End)
+    → IsEntered spot within now mid counted body → Reads within counted body end → Reads (nested spot) (with_use now body) body end
+entered_reads spot within now mid counted body end e inner =
+    subst (λ a. Reads (nested spot) a body end) (e.counts ∙ ap (λ a. with_use a body) e.kept)
+    (subst (λ s. Reads s counted body end) e.nests inner)
+
+pub uses_on : (spot within : Spot) (now mid counted next : Around) (text body rest : List ℕ)
+    → 0 < length text → Does spot.place now text (Uses body rest) → IsEntered spot within now mid counted body
+    → Reads within counted body (Ended next) → Carries spot now text (moved spot (before text rest)) next rest
+uses_on spot within now mid counted next text body rest some d e inner end r =
+    uses body rest next some d (entered_fits spot within now mid counted body e)
+    (entered_reads spot within now mid counted body (Ended next) e inner) r
+
+pub use_fails : (spot within : Spot) (now mid counted : Around) (text body rest : List ℕ) (fault : LexFault)
+    → 0 < length text → Does spot.place now text (Uses body rest) → IsEntered spot within now mid counted body
+    → StopsAt fault within counted body → StopsAt fault spot now text
+use_fails spot within now mid counted text body rest fault some d e inner known =
+    use_stops body rest fault some d (entered_fits spot within now mid counted body e)
+    (entered_reads spot within now mid counted body (Stopped fault) e (inner known)) refl
+
+pub use_is_refused : (spot : Spot) (now mid : Around) (text body rest : List ℕ) (kind : LexKind) (fault : LexFault)
+    → 0 < length text → Does spot.place now text (Uses body rest) → mid ≡ now → use_fault spot mid body ≡ Some kind
+    → fault ≡ fault_at kind spot → StopsAt fault spot now text
+use_is_refused spot now mid text body rest kind fault some d kept why is known =
+    use_refused body rest kind some d (subst (λ a. use_fault spot a body ≡ Some kind) kept why) (ap Stopped is)
 
 pub stops_at : (spot : Spot) (now : Around) (text : List ℕ) (kind : LexKind) (fault : LexFault) → 0 < length text
     → FailsWith kind spot.place now text

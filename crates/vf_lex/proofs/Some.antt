@@ -1,6 +1,6 @@
 -- Each text is read to its end, or to a first fault.
-use Rattle.std.proofs.Common.{◌≡◌, ℕ, zero, suc, ◌+◌, ◌-◌, ◌<◌, ◌≤◌, Bool, true, false, eqb, ◌||◌, cond, List, [], ◌∷◌, ◌++◌, length, drop, Option, Some, None, Ok, Err, ◌⊎◌, inl, inr, refl, ap, arith, length-drop, length-append}
-use Rattle.std.proofs.lemmas.Bool.{cases_Bool}
+use Rattle.std.proofs.Common.{◌≡◌, ℕ, zero, suc, ◌+◌, ◌-◌, ◌^◌, ◌<◌, ◌≤◌, Bool, true, false, eqb, ◌||◌, cond, List, [], ◌∷◌, ◌++◌, length, drop, Option, Some, None, Ok, Err, ◌⊎◌, inl, inr, refl, ap, arith, length-drop, length-append}
+use Rattle.std.proofs.lemmas.Bool.{cases_Bool, cases_lt, le-leb, lt-leb, lt-ltb, le-ltb}
 use Rattle.vf_base.specs.declared.names.Place.{Place}
 use Rattle.vf_lexeme.specs.declared.kinds.Lexeme.TheVariants as lexemes
 use Rattle.vf_lexeme.specs.declared.kinds.TokenKind.{TokenKind}
@@ -13,15 +13,17 @@ use Rattle.vf_lex.specs.declared.directive.Branching.TheVariants.{Ifdef, Ifndef,
 use Rattle.vf_lex.specs.declared.directive.Directive.{Directive}
 use Rattle.vf_lex.specs.declared.directive.Directive.TheVariants.{Define, Undef, Skipped, Include, Use}
 use Rattle.vf_lex.specs.declared.fault.LexFault.{LexFault}
+use Rattle.vf_lex.specs.declared.fault.LexKind.{LexKind}
+use Rattle.vf_lex.specs.declared.fault.LexKind.TheVariants.{MacroDepth, TooMany}
 use Rattle.vf_lex.specs.declared.reader.Condition.{Condition}
 use Rattle.vf_lex.specs.declared.spot.Spot.{Spot}
 use Rattle.vf_lex.specs.declared.token.Token.{Token}
-use Rattle.vf_lex.specs.Around.{Around, End, Ended, Stopped, nothing_yet, is_taken, with_macro}
+use Rattle.vf_lex.specs.Around.{Around, End, Ended, Stopped, nothing_yet, is_taken, with_macro, with_use}
 use Rattle.vf_lex.specs.Directives.{Effect, Goes, Defines, Uses, Stops, branching_of, directive_of, opens, turns, turns_last, closes, branches, defines, undefines, uses, directs, directs_or_branches, directed}
 use Rattle.vf_lex.specs.Elements.{takes, taken_effect, passed_effect, Does, taken, passed}
 use Rattle.vf_lex.specs.Names.{name_of, behind_name, behind_blanks, behind_line_blanks}
 use Rattle.vf_lex.specs.Places.{moved, nested, before}
-use Rattle.vf_lex.specs.Reads.{Reads, fault_at, ends, goes, defines as reads_defines, uses as reads_uses, use_stops, too_deep, stops}
+use Rattle.vf_lex.specs.Reads.{Reads, fault_at, use_fault, ends, goes, defines as reads_defines, uses as reads_uses, use_stops, use_refused, stops}
 use Rattle.vf_lex.specs.Tokens.{first_spot, IsTokens, IsFirstFault, stopped, open_end, TokensAreSome}
 use Rattle.vf_lex.proofs.PlaceLemmas.{moved_depth}
 
@@ -131,8 +133,22 @@ none_or : (n : ℕ) → (n ≡ 0) ⊎ (0 < n)
 none_or zero = inl refl
 none_or (suc n) = inr (omega arith)
 
-less_or : (m n : ℕ) → (m < n) ⊎ (n ≤ m)
-less_or m n = elim (none_or (n - m)) [ inl e ↦ inr (omega (arith, e)) | inr h ↦ inl (omega (arith, h)) ]
+-- the text of a macro that is used is read, or there is a fault
+data UseCases (spot : Spot) (now : Around) (body : List ℕ) : Type 0 where
+  admitted : use_fault spot now body ≡ None → spot.depth < 16 → UseCases spot now body
+  refused : (kind : LexKind) → use_fault spot now body ≡ Some kind → UseCases spot now body
+
+use_cases : (spot : Spot) (now : Around) (body : List ℕ) → UseCases spot now body
+unfolding use_fault
+use_cases spot now body = elim (cases_lt spot.depth 16) [
+  | inr deep ↦ refused MacroDepth (rw (le-leb 16 spot.depth deep) refl)
+  | inl lt ↦
+      let bytes = now.macro_bytes + length body in
+      elim (cases_lt (2 ^ 26) bytes) [
+        | inl many ↦ refused TooMany (rw (lt-leb 16 spot.depth lt, lt-ltb (2 ^ 26) bytes many) refl)
+        | inr fits ↦ admitted (rw (lt-leb 16 spot.depth lt, le-ltb (2 ^ 26) bytes fits) refl) lt
+      ]
+]
 
 -- ---- an element
 
@@ -192,12 +208,12 @@ module _ (begins : BeginsSome) (begins_takes : BeginsTakes) (passes : PassesSome
   Inner k = (spot : Spot) (now : Around) (body : List ℕ) → 16 ≤ spot.depth + k → spot.depth < 16 → Ends (nested spot) now body
 
   use_ends : (spot : Spot) (now : Around) (text body rest : List ℕ) → 0 < length text
-      → Does spot.place now text (Uses body rest) → spot.depth < 16
-      → Ends (nested spot) now body → ((next : Around) → Ends (moved spot (before text rest)) next rest) → Ends spot now text
-  use_ends spot now text body rest some d lt (Ended next, inner) on = let e = on next
-      in (e.0, reads_uses body rest next some d lt inner e.1)
-  use_ends spot now text body rest some d lt (Stopped fault, inner)
-      on = (Stopped fault, use_stops body rest fault some d lt inner refl)
+      → Does spot.place now text (Uses body rest) → use_fault spot now body ≡ None
+      → Ends (nested spot) (with_use now body) body → ((next : Around) → Ends (moved spot (before text rest)) next rest) → Ends spot now text
+  use_ends spot now text body rest some d fits (Ended next, inner) on = let e = on next
+      in (e.0, reads_uses body rest next some d fits inner e.1)
+  use_ends spot now text body rest some d fits (Stopped fault, inner)
+      on = (Stopped fault, use_stops body rest fault some d fits inner refl)
 
   behind_ends : (k : ℕ) → Inner k → (spot : Spot) (now : Around) (text : List ℕ) (effect : Effect) → 16 ≤ spot.depth + k
       → 0 < length text → Does spot.place now text effect
@@ -213,10 +229,10 @@ module _ (begins : BeginsSome) (begins_takes : BeginsTakes) (passes : PassesSome
       (omega (arith, h, ap length s.2.parts, length-append s.2.front s.1)) in
       (e.0, reads_defines name bytes s.0 s.1 some d s.2 e.1)
   behind_ends k inner spot now text (Uses body rest) deep some d h on =
-      elim (less_or (spot.depth) 16) [
-        | inl lt ↦ use_ends spot now text body rest some d lt (inner spot now body deep lt)
+      elim (use_cases spot now body) [
+        | admitted fits lt ↦ use_ends spot now text body rest some d fits (inner spot (with_use now body) body deep lt)
             (λ next. on (moved spot (before text rest)) next rest (moved_depth spot (before text rest)) h)
-        | inr here ↦ (Stopped (fault_at _ spot), too_deep body rest some d here refl)
+        | refused kind why ↦ (Stopped (fault_at kind spot), use_refused body rest kind some d why refl)
       ]
   behind_ends k inner spot now text (Stops kind) deep some d h on = (Stopped (fault_at kind spot), stops kind some d refl)
 

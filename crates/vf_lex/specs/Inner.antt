@@ -16,4 +16,5 @@ around r = record {
   macros = λ name. text_in (λ text. text.items) (get_by (λ key. bytes_eq name key.items) r.macros);
   conditions = reverse r.conditions.items;
   tokens = r.tokens.items;
+  macro_bytes = r.macro_bytes;
 }

@@ -46,9 +46,14 @@ pub(crate) enum Step<'a> {
     Uses(Vec<u8>, &'a [u8]),
 }
 
+/// Whether two names are the same. Most differ in length, which is looked at first, without a call.
+#[tactic(auto, using(crate::proofs::NameLemmas::lengths_differ))]
 fn same(a: &[u8], b: &[u8]) -> bool
     ensures { result ≡ bytes_eq a.now b.now }
 {
+    if a.len() != b.len() {
+        return false;
+    }
     a == b
 }
 

@@ -27,7 +27,8 @@ pub enum LexKind {
     /// A directive of a condition where none can stand, or without its name, or a condition without its `endif` (clause
     /// 19.4).
     BadCondition = 9,
-    /// A token behind 2^20 others.
+    /// A token after 2^20 others, or the use of a macro with whose text more than 2^26 bytes of the texts of macros would have
+    /// been read.
     TooMany = 10,
     /// Memory ran out.
     Memory = 11,

@@ -1,10 +1,10 @@
 //! Reads a text to its end, or up to its first fault.
 
-ghost use Rattle.std.specs.Prelude.{◌≡◌, ℕ, ◌<◌, ◌≤◌, true, false, List, length, Some, Ok, Err, IfOk};
+ghost use Rattle.std.specs.Prelude.{◌≡◌, ℕ, ◌+◌, ◌^◌, ◌<◌, ◌≤◌, true, false, List, length, Some, Ok, Err, IfOk, IsNone};
 ghost use Rattle.vf_macro.specs.MacroText.{IsMacroText};
 ghost use Rattle.vf_lex.specs.Answers.{Gives, seen, left, Keeps, DoesSo, ReadsOne, ReadsAll, HasRoom};
 ghost use Rattle.vf_lex.specs.Around.{is_taken, with_macro};
-ghost use Rattle.vf_lex.specs.Reads.{fault_at};
+ghost use Rattle.vf_lex.specs.Reads.{fault_at, use_fault};
 ghost use Rattle.vf_lex.specs.Elements.{kind_of, open_kind, takes, Does};
 ghost use Rattle.vf_lex.specs.Inner.{around};
 
@@ -22,6 +22,9 @@ const MOST_TOKENS: usize = 1 << 20;
 
 /// How deep uses of macros nest at most.
 const MOST_NESTED: u32 = 16;
+
+/// How many bytes of the texts of macros may be read.
+const MOST_MACRO_BYTES: usize = 1 << 26;
 
 fn kind_of(fault: LexemeFault) -> LexKind
     ensures { result ≡ kind_of fault }
@@ -151,6 +154,22 @@ fn fault_at(kind: LexKind, spot: Spot) -> LexFault
     }
 }
 
+/// Why the text of a macro that is used here is not read; None where it is.
+#[tactic(auto, unfolding(crate::specs::Reads::use_fault))]
+fn use_fault(reader: &Reader, spot: Spot, body: &[u8]) -> Option<LexKind>
+    ensures fault { result ≡ use_fault spot (around reader.now) body.now }
+    ensures depth { IsNone result → spot.depth < 16 }
+    ensures room { IsNone result → (around reader.now).macro_bytes + length body.now ≤ 2 ^ 26 }
+{
+    if spot.depth >= MOST_NESTED {
+        return Some(LexKind::MacroDepth);
+    }
+    if reader.macro_bytes().saturating_add(body.len()) > MOST_MACRO_BYTES {
+        return Some(LexKind::TooMany);
+    }
+    None
+}
+
 /// Reads what the element at the front of a text leads to, and gives the rest of the text.
 #[cycle(reading)]
 fn step<'a>(
@@ -171,10 +190,12 @@ fn step<'a>(
             Err(_) => Err(fault_at(LexKind::Memory, spot)),
         },
         Ok(Step::Uses(body, rest)) => {
-            if spot.depth >= MOST_NESTED {
-                return Err(fault_at(LexKind::MacroDepth, spot));
+            let body = body.as_slice();
+            if let Some(kind) = use_fault(reader, spot, body) {
+                return Err(fault_at(kind, spot));
             }
-            read(alloc, reader, spot.nested(), &body)?;
+            reader.count(body);
+            read(alloc, reader, spot.nested(), body)?;
             Ok(rest)
         }
         Err(kind) => Err(fault_at(kind, spot)),

@@ -1,7 +1,7 @@
 //! What is known where a text is read on.
 
-ghost use Rattle.std.specs.Prelude.{◌≡◌, ◌++◌, ◌∷◌, [], ◌<◌, length, Option, Some, None, is_some, option_map, IfOk, OnOk, IfErr};
-ghost use Rattle.vf_lex.specs.Around.{Around, nothing_yet, is_taken, is_defined, with_macro, with_conditions};
+ghost use Rattle.std.specs.Prelude.{◌≡◌, ◌+◌, ◌^◌, ◌++◌, ◌∷◌, [], ◌<◌, length, Option, Some, None, is_some, option_map, IfOk, OnOk, IfErr};
+ghost use Rattle.vf_lex.specs.Around.{Around, nothing_yet, is_taken, is_defined, with_macro, with_conditions, with_use};
 ghost use Rattle.std.specs.Option.{MatchOption};
 ghost use Rattle.vf_lex.specs.Answers.{Finishes};
 ghost use Rattle.vf_lex.specs.Inner.{around};
@@ -25,12 +25,14 @@ pub(crate) struct Condition {
     pub(crate) closed: bool,
 }
 
-/// The macros, the open conditions, the outermost first, and the tokens so far. A macro that was taken away has no text.
+/// The macros, the open conditions, the outermost first, the tokens so far, and how many bytes of the texts of macros were
+/// read. A macro that was taken away has no text.
 #[derive(Drop)]
 pub(crate) struct Reader {
     pub(crate) macros: IndexMap<Vec<u8>, Option<Vec<u8>>>,
     pub(crate) conditions: Vec<Condition>,
     pub(crate) tokens: Vec<Token>,
+    pub(crate) macro_bytes: usize,
 }
 
 impl Reader {
@@ -42,6 +44,7 @@ impl Reader {
             macros: IndexMap::new(alloc),
             conditions: Vec::new(alloc),
             tokens: Vec::new(alloc),
+            macro_bytes: 0,
         }
     }
 
@@ -121,6 +124,23 @@ impl Reader {
     {
         self.tokens.push(token)?;
         Ok(())
+    }
+
+    /// How many bytes of the texts of macros were read.
+    #[tactic(auto, unfolding(crate::specs::Inner::around))]
+    pub(crate) fn macro_bytes(&self) -> usize
+        ensures { result ≡ (around self.now).macro_bytes }
+    {
+        self.macro_bytes
+    }
+
+    /// Counts the text of a macro that is read next.
+    #[tactic(auto, unfolding(crate::specs::Inner::around))]
+    pub(crate) fn count(&mut self, body: &[u8])
+        requires { (around self.old).macro_bytes + length body.now < 2 ^ 64 }
+        ensures { around self.new ≡ with_use (around self.old) body.now }
+    {
+        self.macro_bytes += body.len();
     }
 
     /// The tokens, if no condition is open.

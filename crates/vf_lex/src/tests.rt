@@ -317,3 +317,55 @@ fn takes_a_million_tokens(rt: HostRuntime) -> Result<(), Fail> {
     );
     Ok(())
 }
+
+/// A macro whose text is one comment of so many bytes, and so many uses of it before a name.
+fn uses(alloc: Global, length: usize, count: u32) -> Result<Vec<u8>, AllocError> {
+    let mut text = Vec::from_slice(alloc, b"`define A/*")?;
+    for _ in 4..length {
+        text.push(b' ')?;
+    }
+    text.extend_from_slice(b"*/\n")?;
+    for _ in 0..count {
+        text.extend_from_slice(b"`A")?;
+    }
+    text.extend_from_slice(b" x")?;
+    Ok(text)
+}
+
+/// Sixteen macros, of which each but the last uses the next five times, and a use of the first.
+fn multiplied(alloc: Global) -> Result<String, AllocError> {
+    let mut text = String::new(alloc);
+    for number in 1..16u32 {
+        let next = number.saturating_add(1);
+        text.push_str(format!(in alloc;
+            "`define M{number} `M{next}`M{next}`M{next}`M{next}`M{next}\n"
+        )?.as_str())?;
+    }
+    text.push_str("`define M16\n x `M1")?;
+    Ok(text)
+}
+
+#[test]
+fn reads_so_many_bytes_of_macros(rt: HostRuntime) -> Result<(), Fail> {
+    let most = uses(rt.alloc(), 1_048_576, 64)?;
+    assert_eq!(rt;
+        spelled(rt.alloc(), most.as_slice())?.as_slice(),
+        b"N:x@2:130".as_slice()
+    );
+    let more = uses(rt.alloc(), 1_048_576, 65)?;
+    assert_eq!(rt;
+        spelled(rt.alloc(), more.as_slice())?.as_slice(),
+        b"!10@2:129".as_slice()
+    );
+    let less = uses(rt.alloc(), 1_048_575, 64)?;
+    assert_eq!(rt;
+        spelled(rt.alloc(), less.as_slice())?.as_slice(),
+        b"N:x@2:130".as_slice()
+    );
+    let multiplied = multiplied(rt.alloc())?;
+    assert_eq!(rt;
+        spelled(rt.alloc(), multiplied.as_bytes())?.as_slice(),
+        b"!10@17:4".as_slice()
+    );
+    Ok(())
+}
