@@ -40,8 +40,12 @@ pub reordered-sides : (front left right back : List Holder) → Reordered (front
 reordered-sides front left right back = record {
   totals = λ f. omega (
     arith,
-    total-append f front (left ++ (right ++ back)), total-append f left (right ++ back), total-append f right back,
-    total-append f front (right ++ (left ++ back)), total-append f right (left ++ back), total-append f left back,
+    total-append f front (left ++ (right ++ back)),
+    total-append f left (right ++ back),
+    total-append f right back,
+    total-append f front (right ++ (left ++ back)),
+    total-append f right (left ++ back),
+    total-append f left back,
   );
   parts = λ h.
       let first = parts-split front (left ++ (right ++ back)) h in

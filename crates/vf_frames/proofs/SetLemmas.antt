@@ -122,3 +122,102 @@ frames_in-zeros limit n words e =
 pub below-frames_in : (limit : ℕ) (words : List ℕ) (f : ℕ) → has f (frames_in limit words) ≡ true → f < limit
 below-frames_in limit words f h =
     ⊎_elim (λ below. below) (λ above. absurd (both_ways _ (has-frames_in_above limit words f above) h)) (cases_lt f limit)
+
+-- how many frames there are
+length-cond : (b : Bool) (x : ℕ) (r : List ℕ) → length (cond b (x ∷ r) r) ≡ cond b 1 0 + length r
+length-cond true x r = omega arith
+length-cond false x r = omega arith
+
+length-first : (p : ℕ → Bool) (a n : ℕ) → length (filter p (range_with_len a (suc n))) ≡ cond (p a) 1 0 + length (filter p (range_with_len (a + 1) n))
+length-first p a n = length-cond (p a) a (filter p (range_with_len (a + 1) n))
+
+one-at-most : (b : Bool) → cond {A = ℕ} b 1 0 ≤ 1
+one-at-most true = omega arith
+one-at-most false = omega arith
+
+length-same : (p q : ℕ → Bool) (a n : ℕ) → ((g : ℕ) → a ≤ g → q g ≡ p g) → length (filter q (range_with_len a n)) ≡ length (filter p (range_with_len a n))
+length-same p q a zero h = refl
+length-same p q a (suc n) h =
+    omega (arith, length-first p a n, length-first q a n, ap {B = ℕ} (λ b. cond b 1 0) (h a (omega arith)), length-same p q (a + 1) n (λ g le. h g (omega (arith, le))))
+
+length-within : (p : ℕ → Bool) (a n : ℕ) → length (filter p (range_with_len a n)) ≤ n
+length-within p a zero = omega arith
+length-within p a (suc n) = omega (arith, length-first p a n, one-at-most (p a), length-within p (a + 1) n)
+
+length-gain : (p q : ℕ → Bool) (f a n : ℕ) → ((g : ℕ) → q g ≡ ((g == f) || p g)) → length (filter q (range_with_len a n)) ≤ length (filter p (range_with_len a n)) + 1
+length-gain p q f a zero h = omega arith
+length-gain p q f a (suc n) h =
+    ⊎_elim
+    (λ e. omega (
+      arith,
+      length-first p a n,
+      length-first q a n,
+      one-at-most (q a),
+      length-same p q (a + 1) n (λ g le. h g ∙ or_there (g == f) (p g) (ne_eqb g f (λ same. absurd (omega (arith, le, e, same))))),
+    ))
+    (λ ne. omega (
+      arith,
+      length-first p a n,
+      length-first q a n,
+      ap {B = ℕ} (λ b. cond b 1 0) (h a ∙ or_there (a == f) (p a) (ne_eqb a f ne)),
+      length-gain p q f (a + 1) n h,
+    ))
+    (cases_eq a f)
+
+length-lose : (p q : ℕ → Bool) (f a n : ℕ) → a ≤ f → f < a + n → p f ≡ true → ((g : ℕ) → q g ≡ (not (g == f) && p g)) → length (filter q (range_with_len a n)) + 1 ≡ length (filter p (range_with_len a n))
+length-lose p q f a zero low high there h = absurd (omega arith)
+length-lose p q f a (suc n) low high there h =
+    ⊎_elim
+    (λ e. omega (
+      arith,
+      length-first p a n,
+      length-first q a n,
+      ap {B = ℕ} (λ b. cond b 1 0) (ap p e ∙ there),
+      ap {B = ℕ} (λ b. cond b 1 0) (h a ∙ not_here (a == f) (p a) (eq-eqb a f e)),
+      length-same p q (a + 1) n (λ g le. h g ∙ not_there (g == f) (p g) (ne_eqb g f (λ same. absurd (omega (arith, le, e, same))))),
+    ))
+    (λ ne. omega (
+      arith,
+      length-first p a n,
+      length-first q a n,
+      ap {B = ℕ} (λ b. cond b 1 0) (h a ∙ not_there (a == f) (p a) (ne_eqb a f ne)),
+      length-lose p q f (a + 1) n (omega (arith, low, ne)) (omega (arith, high)) there h,
+    ))
+    (cases_eq a f)
+
+either-at-most : (a b : Bool) → cond {A = ℕ} (a || b) 1 0 ≤ cond a 1 0 + cond b 1 0
+either-at-most true b = omega arith
+either-at-most false b = omega arith
+
+length-unite : (p r q : ℕ → Bool) (a n : ℕ) → ((g : ℕ) → g < a + n → q g ≡ (p g || r g)) → length (filter q (range_with_len a n)) ≤ length (filter p (range_with_len a n)) + length (filter r (range_with_len a n))
+length-unite p r q a zero h = omega arith
+length-unite p r q a (suc n) h =
+    omega (
+      arith,
+      length-first p a n,
+      length-first r a n,
+      length-first q a n,
+      ap {B = ℕ} (λ b. cond b 1 0) (h a (omega arith)),
+      either-at-most (p a) (r a),
+      length-unite p r q (a + 1) n (λ g below. h g (omega (arith, below))),
+    )
+
+-- a set has no more frames than its limit, one more at most after one is put in, and one less after one is taken out
+pub frames_in-one_more : (limit f : ℕ) (words words' : List ℕ) → ((g : ℕ) → bit_is words' g ≡ ((g == f) || bit_is words g)) → (length (frames_in limit words') ≤ length (frames_in limit words) + 1) × (length (frames_in limit words') ≤ limit)
+unfolding frames_in
+frames_in-one_more limit f words words' each = (length-gain (bit_is words) (bit_is words') f 0 limit each, length-within (bit_is words') 0 limit)
+
+pub frames_in-one_less : (limit f : ℕ) (words words' : List ℕ) → has f (frames_in limit words) ≡ true → ((g : ℕ) → bit_is words' g ≡ (not (g == f) && bit_is words g)) → length (frames_in limit words') + 1 ≡ length (frames_in limit words)
+unfolding frames_in
+frames_in-one_less limit f words words' there each =
+    let below = below-frames_in limit words f there in
+    length-lose (bit_is words) (bit_is words') f 0 limit (omega arith) (omega (arith, below)) (sym (has-frames_in limit words f below) ∙ there) each
+
+pub frames_in-both : (limit : ℕ) (left right words' : List ℕ) → ((g : ℕ) → g < limit → bit_is words' g ≡ (bit_is left g || bit_is right g)) → (length (frames_in limit words') ≤ length (frames_in limit left) + length (frames_in limit right)) × (length (frames_in limit words') ≤ limit)
+unfolding frames_in
+frames_in-both limit left right words' each = (length-unite (bit_is left) (bit_is right) (bit_is words') 0 limit (λ g below. each g (omega (arith, below))), length-within (bit_is words') 0 limit)
+
+-- a set that counts no frame has none
+pub none-in : (xs : List ℕ) (f : ℕ) → length xs ≤ 0 → has f xs ≡ false
+none-in [] f h = refl
+none-in (x ∷ xs) f h = absurd (omega (arith, h))

@@ -1,15 +1,19 @@
-ghost use Rattle.std.specs.Prelude.{◌≡◌, ℕ, ◌+◌, ◌/◌, ◌<◌, [], ◌&&◌, ◌||◌, ◌==◌, not, slice_index, bit_or, IfOk, vec_len};
+ghost use Rattle.std.specs.Prelude.{◌≡◌, ℕ, ◌+◌, ◌/◌, ◌<◌, ◌≤◌, [], true, length, ◌&&◌, ◌||◌, ◌==◌, not, slice_index, bit_or, IfOk, vec_len};
 ghost use Rattle.vf_frames.specs.Numbers.{has};
 ghost use Rattle.vf_frames.specs.FrameSets.{frames_in};
 
 use std::alloc::{AllocError, Global};
 
-/// A set of frames below a limit, one bit for each.
+/// A set of frames below a limit, one bit for each. It counts its frames, so that uniting it with an
+/// empty set takes no walk over the words.
 #[derive(Debug, Drop)]
 pub(crate) struct FrameSet {
     pub(crate) words: Vec<u64>,
     pub(crate) limit: u32,
+    // How many frames there are, or more where a frame was put in that was there.
+    pub(crate) count: u32,
     ghost wide: { vec_len words ≡ (limit + 63) / 64 },
+    ghost counted: { length (frames_in limit words.items) ≤ count },
 }
 
 impl FrameSet {
@@ -19,7 +23,11 @@ impl FrameSet {
     {
         let count = (u64::from(limit) + 63) / 64;
         let words = vec![in alloc; 0u64; count as usize]?;
-        Ok(FrameSet { words, limit })
+        Ok(FrameSet {
+            words,
+            limit,
+            count: 0,
+        })
     }
 
     pub(crate) fn contains(&self, frame: u32) -> bool
@@ -35,16 +43,18 @@ impl FrameSet {
             ≡ ((g == frame) || has g (frames_in self.old.limit self.old.words.items)) }
         ensures limit { self.new.limit ≡ self.old.limit }
     {
+        self.count = self.count.saturating_add(1).min(self.limit);
         self.words[(frame / 64) as usize] |= 1 << (frame % 64);
     }
 
     pub(crate) fn remove(&mut self, frame: u32)
-        requires { frame < self.old.limit }
+        requires { has frame (frames_in self.old.limit self.old.words.items) ≡ true }
         ensures each { (g : ℕ) → has g (frames_in self.new.limit self.new.words.items)
             ≡ (not (g == frame) && has g (frames_in self.old.limit self.old.words.items)) }
         ensures limit { self.new.limit ≡ self.old.limit }
     {
         self.words[(frame / 64) as usize] &= !(1 << (frame % 64));
+        self.count = self.count.saturating_sub(1);
     }
 
     pub(crate) fn unite(&mut self, other: &FrameSet)
@@ -54,6 +64,10 @@ impl FrameSet {
             || has g (frames_in other.now.limit other.now.words.items)) }
         ensures limit { self.new.limit ≡ self.old.limit }
     {
+        if other.count == 0 {
+            return;
+        }
+        self.count = self.count.saturating_add(other.count).min(self.limit);
         or_words(&mut self.words, &other.words);
     }
 }

@@ -10,7 +10,7 @@ lower-requires c =
     omega (arith, below-frames_in _ _ _ c.requires.there, ap (λ (n : Name). n.frames) c.requires.name, c.args.self.now.sized)
 
 pub remove-requires : goal.remove-requires
-remove-requires c = below-frames_in _ _ _ c.requires.there
+remove-requires c = c.requires.there
 
 pub returns-clause-kept : goal.returns-clause-kept
 returns-clause-kept c = λ others a.
