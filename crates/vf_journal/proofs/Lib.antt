@@ -1,0 +1,4 @@
+pub mod PointLemmas
+pub mod DecisionLemmas
+pub mod StartLemmas
+pub mod FarmLemmas

@@ -1,6 +1,6 @@
 -- When a job starts and ends, and what follows from it (docs/FARM.md, "The farm"). The rules are the same for a farm that runs and for a
 -- journal that is replayed; what they ask of the runs is handed in.
-use Rattle.std.specs.Prelude.{◌≡◌, ◌⊎◌, ℕ, zero, suc, ◌≤◌, Bool, true, false, ◌&&◌, ◌||◌, ◌==◌, not, if◌then◌else◌, List, [], ◌∷◌, ◌++◌, length, map, Option, Some, None, option_map, option_and_then, is_some}
+use Rattle.std.specs.Prelude.{◌≡◌, ℕ, zero, suc, Bool, true, false, ◌&&◌, ◌||◌, ◌==◌, not, if◌then◌else◌, List, [], ◌∷◌, ◌++◌, length, map, Option, Some, None, option_map, option_and_then, is_some}
 use Rattle.std.specs.List.{list_any, filter}
 use Rattle.vf_base.specs.declared.names.Job.{Job}
 use Rattle.vf_base.specs.declared.names.Job.TheVariants.{Reach, Finish}
@@ -43,13 +43,6 @@ started_from r origin = attempt_from (option_and_then (image_of r) origin)
 abbrev pub IsRunning : Records → Job → Attempt → Type 0
 IsRunning r job attempt = r.stages job ≡ running attempt
 
--- an attempt that is given up came so far: not back before its start, and not beyond the limit on turns
-pub record IsGivenUp {S : Type 0} (f : Farm S) (r : Records) (job : Job) (turn : ℕ) : Type 0 where
-  pub attempt : Attempt
-  pub runs : IsRunning r job attempt
-  pub since : attempt.since ≤ turn
-  pub within : turn ≤ (limits f job).turns
-
 -- the only job that runs
 pub record IsAlone (r : Records) (job : Job) : Type 0 where
   pub attempt : Attempt
@@ -70,8 +63,8 @@ Guard f seen r (Saved node turn pages base) = (attempt : Attempt) × IsRunning r
 Guard f seen r (Pass node turn) = (attempt : Attempt) × IsRunning r (Reach node) attempt
 Guard f seen r (End job turn) = (attempt : Attempt) × IsRunning r job attempt
 Guard f seen r (Pages job turn pages) = IsAlone r job × (r.held ≡ [])
-Guard f seen r (Lost job turn) = IsGivenUp f r job turn ⊎ ((is_ready f r job ≡ true) × (turn ≡ 0))
-Guard f seen r (Short job turn) = IsGivenUp f r job turn × (r.held ≡ []) × (r.rested ≡ false)
+Guard f seen r (Lost job turn) = (is_running (r.stages job) || is_ready f r job) ≡ true
+Guard f seen r (Short job turn) = ((attempt : Attempt) × IsRunning r job attempt) × (r.held ≡ []) × (r.rested ≡ false)
 Guard f seen r (Evict node) = (is_some (image_of r node) ≡ true) × (is_pinned r node ≡ false)
 Guard f seen r Rest = IsAtRest f r
 Guard f seen r (Copy job node) = ⊥

@@ -1,5 +1,5 @@
 -- Lawful journals (docs/FARM.md, "The journal").
-use Rattle.std.specs.Prelude.{◌≡◌, ℕ, ◌+◌, ◌-◌, ◌<◌, Bool, true, false, ◌&&◌, ◌||◌, ◌==◌, nat_lt, nat_le, not, if◌then◌else◌, List, [], ◌∷◌, ◌++◌, length, Option, Some, None, option_map, option_and_then, sum_by}
+use Rattle.std.specs.Prelude.{◌≡◌, ℕ, ◌+◌, ◌-◌, ◌<◌, ◌≤◌, Bool, true, false, ◌&&◌, ◌||◌, ◌==◌, nat_lt, nat_le, not, if◌then◌else◌, List, [], ◌∷◌, ◌++◌, length, Option, Some, None, option_map, option_and_then, sum_by}
 use Rattle.std.specs.List.{filter, find}
 use Rattle.vf_base.specs.declared.names.Job.{Job}
 use Rattle.vf_base.specs.declared.names.Job.TheVariants.{Reach, Finish}
@@ -72,6 +72,14 @@ pub record PassesSolo {S : Type 0} (f : Farm S) (job : Job) (turn pages : ℕ) :
   pub passes : passing_turn f.machine (stimulus f job) (limits f job) f.budget ≡ Some (turn + 1)
   pub kind : ReachesKind f job (solo.over turn)
 
+-- an attempt that is given up came so far: not back before its start, and not beyond the limit on turns; a job that is lost before it
+-- has started is at turn 0
+abbrev pub IsGivenUp : {S : Type 0} → Farm S → Job → ℕ → Stage → Type 0
+IsGivenUp f job turn idle = turn ≡ 0
+IsGivenUp f job turn (running attempt) = (attempt.since ≤ turn) × (turn ≤ (limits f job).turns)
+IsGivenUp f job turn deferred = Unit {0}
+IsGivenUp f job turn (over tells) = Unit {0}
+
 -- turns, kinds, pages and endings are those of the solo runs
 abbrev pub IsOfSolo : {S : Type 0} → Farm S → Records → Entry → Type 0
 IsOfSolo f r (Saved node turn pages base) = SavesSolo f r node turn pages base
@@ -80,8 +88,8 @@ IsOfSolo f r (End job turn) = EndsSolo f job turn
 IsOfSolo f r (Pages job turn pages) = PassesSolo f job turn pages
 IsOfSolo f r (Start job origin) = Unit {0}
 IsOfSolo f r (Copy job node) = Unit {0}
-IsOfSolo f r (Lost job turn) = Unit {0}
-IsOfSolo f r (Short job turn) = Unit {0}
+IsOfSolo f r (Lost job turn) = IsGivenUp f job turn (r.stages job)
+IsOfSolo f r (Short job turn) = IsGivenUp f job turn (r.stages job)
 IsOfSolo f r (Evict node) = Unit {0}
 IsOfSolo f r (Retire node) = Unit {0}
 IsOfSolo f r Rest = Unit {0}

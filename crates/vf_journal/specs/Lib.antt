@@ -3,3 +3,4 @@ pub mod Records
 pub mod Effects
 pub mod Journal
 pub mod Machine
+pub mod Laws

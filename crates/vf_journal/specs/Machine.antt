@@ -92,9 +92,9 @@ pub record MayPassBudget {S : Type 0} (f : Farm S) (w : World S) (job : Job) (tu
   pub now : turn ≡ turns_at w job
   pub counted : pages ≡ pages_next f job (w.runs job)
 
--- an attempt that is given up tells how far it has come
+-- an attempt that is given up tells how far it has come, and a job that has not started is at turn 0
 abbrev pub TellsTurn : {S : Type 0} → World S → Job → ℕ → Stage → Type 0
-TellsTurn w job turn idle = Unit {0}
+TellsTurn w job turn idle = turn ≡ 0
 TellsTurn w job turn (running attempt) = turn ≡ turns_at w job
 TellsTurn w job turn deferred = Unit {0}
 TellsTurn w job turn (over tells) = Unit {0}

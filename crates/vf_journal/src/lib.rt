@@ -8,5 +8,6 @@
 #![tactic(auto)]
 
 mod entry;
+pub mod laws;
 
 pub use entry::{Entry, JobState, Kind, Told};
