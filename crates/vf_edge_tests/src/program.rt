@@ -1,7 +1,9 @@
-use crate::program;
+//! The program, on words that it refuses or cannot have.
+
 use std::alloc::{AllocError, Global};
 use std::io::{self, ErrorKind};
 use std::test::Fail;
+use vf_program::program;
 
 fn two_words(alloc: Global, design: &str, plan: &str) -> Result<Vec<String>, AllocError> {
     let mut words = Vec::new(alloc);

@@ -1,4 +1,4 @@
-use Rattle.vfarm.proofs.program.Given as goal
+use Rattle.vf_program.proofs.program.Given as goal
 
 abbrev pub ghosts-counted : goal.ghosts-counted
 ghosts-counted g a = record { name = a.blank.name; parts = a.blank.parts }
