@@ -49,8 +49,20 @@ fn a_reader_is_read_to_its_end(rt: HostRuntime) -> Result<(), Fail> {
         (10_000usize, 0u32, 10_000u64, Ok(()), 10_000usize),
         (1, 0, 10_000, Ok(()), 10_000),
         (4096, 0, 20_000, Ok(()), 10_000),
-        (10_000, 0, 9_999, Err(ShelfRefusal::TooLong { taken: 10_000 }), 8192),
-        (1, 0, 9_999, Err(ShelfRefusal::TooLong { taken: 10_000 }), 9_999),
+        (
+            10_000,
+            0,
+            9_999,
+            Err(ShelfRefusal::TooLong { taken: 10_000 }),
+            8192,
+        ),
+        (
+            1,
+            0,
+            9_999,
+            Err(ShelfRefusal::TooLong { taken: 10_000 }),
+            9_999,
+        ),
         (1, 0, 0, Err(ShelfRefusal::TooLong { taken: 1 }), 0),
         (4000, 3, 10_000, Err(ShelfRefusal::Failed), 8000),
         (1, 10_001, 10_000, Err(ShelfRefusal::Failed), 10_000),
@@ -64,7 +76,11 @@ fn a_reader_is_read_to_its_end(rt: HostRuntime) -> Result<(), Fail> {
         let mut into = Vec::from_slice(rt.alloc(), b"-")?;
         let answer = read_within(&mut reader, max, &mut into);
         assert_eq!(rt; answer, want, "at {most} {fails} {max}");
-        assert_eq!(rt; into.len(), appended.saturating_add(1), "at {most} {fails} {max}");
+        assert_eq!(rt;
+            into.len(),
+            appended.saturating_add(1),
+            "at {most} {fails} {max}"
+        );
         assert!(rt; into[0] == b'-' && bytes.starts_with(&into[1..]));
     }
     Ok(())
@@ -119,7 +135,11 @@ fn a_writer_is_written_to_until_it_fails(rt: HostRuntime) -> Result<(), Fail> {
         };
         let answer = put_all(&mut OutSink::new(&mut writer), b"abcd");
         assert_eq!(rt; answer, want, "at {most} {fails}");
-        assert_eq!(rt; writer.taken.as_slice(), taken.as_bytes(), "at {most} {fails}");
+        assert_eq!(rt;
+            writer.taken.as_slice(),
+            taken.as_bytes(),
+            "at {most} {fails}"
+        );
     }
     Ok(())
 }
@@ -148,7 +168,10 @@ fn a_real_file_is_fetched(rt: HostRuntime) -> Result<(), Fail> {
     assert_eq!(rt; long, Err(ShelfRefusal::TooLong { taken: 10_000 }));
     assert_eq!(rt; missing, Err(ShelfRefusal::Failed));
     // a directory can be opened and not be read
-    assert_eq!(rt; shelf.fetch("/", 10_000, &mut whole), Err(ShelfRefusal::Failed));
+    assert_eq!(rt;
+        shelf.fetch("/", 10_000, &mut whole),
+        Err(ShelfRefusal::Failed)
+    );
     assert_eq!(rt; whole.len(), 10_000);
     Ok(())
 }

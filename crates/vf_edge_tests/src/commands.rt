@@ -2,7 +2,9 @@
 
 ghost use Rattle.std.specs.Prelude.{◌≤◌};
 
-use crate::outside::{Answered, Outside, calm, counted, echo, files, names, one_node, owned, ran, text, told};
+use crate::outside::{
+    Answered, Outside, calm, counted, echo, files, names, one_node, owned, ran, text, told,
+};
 use std::alloc::Global;
 use std::marker::Brand;
 use std::sync::ledger::Blank;

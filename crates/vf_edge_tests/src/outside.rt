@@ -16,7 +16,8 @@ pub fn names() -> &'static [&'static str] {
 
 /// Writes each byte of the stimulus, and asks for a checkpoint after each newline.
 pub fn echo() -> &'static str {
-    "module echo; integer c; initial begin c = $fgetc(32'h8000_0000); while (c != -1) begin $write(\"%c\", c); if (c == 10) $save(\"echo\"); c = $fgetc(32'h8000_0000); end $finish(0); end endmodule"
+    "module echo; integer c; initial begin c = $fgetc(32'h8000_0000); while (c != -1) begin $write(\"%c\", c); \
+     if (c == 10) $save(\"echo\"); c = $fgetc(32'h8000_0000); end $finish(0); end endmodule"
 }
 
 /// What the outside does in a command: the numbers, from 1, of the fetch and of the write that fail, 0 for none,

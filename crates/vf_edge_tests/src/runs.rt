@@ -14,7 +14,9 @@ fn nothing() -> &'static str {
 }
 
 fn five_reads() -> &'static str {
-    "module m; integer c; initial begin c = $fgetc(32'h8000_0000); c = $fgetc(32'h8000_0000); c = $fgetc(32'h8000_0000); c = $fgetc(32'h8000_0000); c = $fgetc(32'h8000_0000); $write(\"%c\", c); $save(\"s\"); $incsave(\"i\"); end endmodule"
+    "module m; integer c; initial begin c = $fgetc(32'h8000_0000); c = $fgetc(32'h8000_0000); \
+     c = $fgetc(32'h8000_0000); c = $fgetc(32'h8000_0000); c = $fgetc(32'h8000_0000); $write(\"%c\", c); \
+     $save(\"s\"); $incsave(\"i\"); end endmodule"
 }
 
 fn endless() -> &'static str {
@@ -24,10 +26,12 @@ fn endless() -> &'static str {
 // The report of a completed test without an expectation: its ending and bytes, and its turns.
 fn report(alloc: Global, ending: &str, turns: u64, written: &str) -> Result<String, Memory> {
     Ok(format!(in alloc;
-        "test t {ending} turns {turns} bytes {written} expect none\ntests 1 completed 1 met 0 failed 0 pages 0 memory 0 turns {turns}\n"
+        "test t {ending} turns {turns} bytes {written} expect none\n\
+         tests 1 completed 1 met 0 failed 0 pages 0 memory 0 turns {turns}\n"
     )?)
 }
 
+#[rattlefmt::skip]
 #[test]
 fn each_rule_of_a_run_has_its_turn(rt: HostRuntime) -> Result<(), Fail> {
     // the design, the members of the test, the ending, the turns, and the bytes written
@@ -65,10 +69,20 @@ fn repeated(alloc: Global, piece: &str, times: u32) -> Result<String, Memory> {
 }
 
 // The echo on a stimulus of one character many times: as JSON has it and as the report shows it.
-fn echoed(alloc: Global, character: &str, hex: &str, times: u32, turns: u64) -> Result<bool, Memory> {
+fn echoed(
+    alloc: Global,
+    character: &str,
+    hex: &str,
+    times: u32,
+    turns: u64,
+) -> Result<bool, Memory> {
     let stimulus = repeated(alloc, character, times)?;
     let members = format!(in alloc; "\"text\":\"{stimulus}\"")?;
-    let told = ran(alloc, echo(), one_node(alloc, 1, members.as_str())?.as_str())?;
+    let told = ran(
+        alloc,
+        echo(),
+        one_node(alloc, 1, members.as_str())?.as_str(),
+    )?;
     let shown = repeated(alloc, hex, times)?;
     let written = format!(in alloc; "{times} out {shown}")?;
     let report = report(alloc, "finish:0", turns, written.as_str())?;

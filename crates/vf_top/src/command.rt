@@ -37,8 +37,10 @@ fn run<S: Shelf, K: Sink, L: Ledger>(
 ) -> Result<u8, Refusal>
     requires { steps.old.count < 2 ^ 62 }
     ensures ran { (err told : SinkState) →
-        let before : World = record { shelf = S.seen shelf.old; out = K.seen out.old; err = err; steps = steps.old } in
-        let after : World = record { shelf = S.seen shelf.new; out = K.seen out.new; err = told; steps = steps.new } in
+        let before : World =
+        record { shelf = S.seen shelf.old; out = K.seen out.old; err = err; steps = steps.old } in
+        let after : World =
+        record { shelf = S.seen shelf.new; out = K.seen out.new; err = told; steps = steps.new } in
         Ran (map string_bytes words.now) before after result }
     ensures parts { steps.new.parts ≡ steps.old.parts }
 {
@@ -83,9 +85,10 @@ fn answer<S: Shelf, K: Sink, E: Sink, L: Ledger>(
     steps: &mut Steps<L>,
 ) -> u8
     requires { steps.old.count < 2 ^ 62 }
-    ensures answer {
-        let before : World = record { shelf = S.seen shelf.old; out = K.seen out.old; err = E.seen err.old; steps = steps.old } in
-        let after : World = record { shelf = S.seen shelf.new; out = K.seen out.new; err = E.seen err.new; steps = steps.new } in
+    ensures answer { let before : World =
+        record { shelf = S.seen shelf.old; out = K.seen out.old; err = E.seen err.old; steps = steps.old } in
+        let after : World =
+        record { shelf = S.seen shelf.new; out = K.seen out.new; err = E.seen err.new; steps = steps.new } in
         Answers (map string_bytes words.now) before after result }
     ensures parts { steps.new.parts ≡ steps.old.parts }
 {
@@ -121,9 +124,10 @@ pub fn command_here<S: Shelf, K: Sink, E: Sink, L: Ledger>(
     steps: &mut Steps<L>,
 ) -> u8
     requires { steps.old.count < 2 ^ 62 }
-    ensures {
-        let before : World = record { shelf = S.seen shelf.old; out = K.seen out.old; err = E.seen err.old; steps = steps.old } in
-        let after : World = record { shelf = S.seen shelf.new; out = K.seen out.new; err = E.seen err.new; steps = steps.new } in
+    ensures { let before : World =
+        record { shelf = S.seen shelf.old; out = K.seen out.old; err = E.seen err.old; steps = steps.old } in
+        let after : World =
+        record { shelf = S.seen shelf.new; out = K.seen out.new; err = E.seen err.new; steps = steps.new } in
         Promised (map string_bytes words.now) before after result }
 {
     one_program();

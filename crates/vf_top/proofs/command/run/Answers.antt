@@ -6,8 +6,7 @@ use Rattle.vf_top.proofs.command.run.Goals as goal
 pub returns-in_default-clause-ran : goal.returns-in_default-clause-ran
 returns-in_default-clause-ran g c = λ err told.
     let read = c.in_ok-design.ensures in
-    let counted = c.report.ensures.moved read.0 read.1 in
-    (
+    let counted = c.report.ensures.moved read.0 read.1 in (
       ((read.2.design.design_name, read.2.plan_name), read.2.design.named),
       read.3,
       (refl, inr (record { p = c.in_ok-design.design; test = read.0; accepted = read.2; least = counted.0; most = counted.1 })),
