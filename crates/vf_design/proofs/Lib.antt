@@ -1,3 +1,4 @@
 pub mod Sounds
-pub mod Sizes
+pub mod Laid
+pub mod ReadLemmas
 pub mod CallerLemmas

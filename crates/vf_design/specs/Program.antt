@@ -1,5 +1,7 @@
 -- A design as contracts see it. These are the early designs: one process over one integer.
 use Rattle.std.specs.Prelude.{◌≡◌, ℕ, ◌+◌, ◌-◌, ◌*◌, ◌/◌, ◌<◌, ◌≤◌, Bool, true, false, List, length, slice_get, IfSome}
+use Rattle.vf_base.specs.declared.write.TheConstants.{PAGE_WORDS}
+use Rattle.vf_design.specs.declared.layout.TheConstants.{SLOTS, SLOT_WORDS}
 use Rattle.vf_design.specs.declared.code.Instr.{Instr}
 use Rattle.vf_design.specs.declared.code.Instr.TheVariants.{Jump, Unless, Halt}
 
@@ -16,7 +18,7 @@ NamesPlacesBelow length (Jump to) = to < length
 NamesPlacesBelow length (Unless condition to) = to < length
 NamesPlacesBelow length _ = Unit {0}
 
--- a process goes on to no next place behind it
+-- a process goes on to no next place after it
 abbrev pub ends_code : Instr → Bool
 ends_code Halt = true
 ends_code (Jump to) = true
@@ -34,9 +36,9 @@ pub record IsWellFormed (p : Program) : Type 0 where
   pub code : IsCode p.code
   pub slots : (1 ≤ p.slots) × (p.slots ≤ 16384)
 
--- how many pages and words a state has: 22 words before the slots, 8 for each slot, and zeros that fill the last page
+-- how many pages and words a state has: the words before the slots, those of the slots, and zeros that fill the last page
 abbrev pub page_count : Program → ℕ
-page_count p = (22 + 8 * p.slots + 63) / 64
+page_count p = (SLOTS + SLOT_WORDS * p.slots + (PAGE_WORDS - 1)) / PAGE_WORDS
 
 abbrev pub word_count : Program → ℕ
-word_count p = 64 * page_count p
+word_count p = PAGE_WORDS * page_count p

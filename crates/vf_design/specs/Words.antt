@@ -1,6 +1,7 @@
 -- The layout of a state in 64-bit words, and the machine of a design.
 use Rattle.std.specs.Prelude.{ℕ, ◌-◌, ◌^◌, List, [], ◌∷◌, ◌++◌, Option, Some, None, replicate}
 use Rattle.vf_machine.specs.Machine.{Machine}
+use Rattle.vf_design.specs.declared.layout.TheConstants.{SLOTS}
 use Rattle.vf_design.specs.Program.{Program, word_count}
 use Rattle.vf_design.specs.State.{State, Status, halted, active, running}
 use Rattle.vf_design.specs.Step.{start, instruction, move_from, is_drained, is_at_read}
@@ -53,7 +54,7 @@ front_words s = queue_words s.status ++ process_words s ++ value_words s.value
 
 -- the event queue, the process, the variable, then the slots, all of them free, and zeros that fill the last page
 abbrev pub words_of : Program → State → List ℕ
-words_of p s = front_words s ++ replicate (word_count p - 22) 0
+words_of p s = front_words s ++ replicate (word_count p - SLOTS) 0
 
 -- the design as a machine
 abbrev pub machine_of : Program → Machine State

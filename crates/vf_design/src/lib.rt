@@ -9,6 +9,7 @@
 mod code;
 mod design;
 pub mod laws;
+pub mod layout;
 mod turn;
 
 pub use code::{Condition, Instr};

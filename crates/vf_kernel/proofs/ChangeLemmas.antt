@@ -1,9 +1,13 @@
--- The writes of the words that differ are the change from one state's words to another's.
-use Rattle.std.proofs.Common.{◌≡◌, ℕ, suc, ◌≤◌, ◌<◌, Bool, true, false, ◌&&◌, cond, ◌==◌, nat_le, List, [], ◌∷◌, ◌++◌, length, slice_index, slice_set, refl, sym, ◌∙◌, ap, subst, arith, append_assoc, lit≤}
-use Rattle.std.proofs.lemmas.Bool.{false≢true, le-leb, leb-true, eqb-true, eq-eqb}
+-- The writes of each instruction are the change from one state's words to another's.
+use Rattle.std.proofs.Common.{◌≡◌, ℕ, suc, ◌≤◌, ◌<◌, Bool, true, false, ◌&&◌, cond, ◌==◌, nat_le, List, [], ◌∷◌, ◌++◌, length, Option, Some, slice_index, slice_set, refl, sym, ◌∙◌, ap, subst, arith, append_assoc, lit≤}
+use Rattle.std.proofs.lemmas.Bool.{false≢true, le-leb, leb-true, eqb-true, eqb-false, eq-eqb}
 use Rattle.std.proofs.lemmas.List.{set-get_or, append-nil}
 use Rattle.vf_base.specs.declared.write.Write.{Write}
 use Rattle.vf_machine.specs.Writes.{IsChange, AllChange, rises_from, written}
+use Rattle.vf_design.specs.Program.{Program}
+use Rattle.vf_design.specs.State.{State, halted, active, running}
+use Rattle.vf_design.specs.Step.{at}
+use Rattle.vf_design.specs.Words.{words_of, ones_word, unknown_word}
 use Rattle.vf_kernel.specs.Changes.{change_at}
 
 written_by : (b : Bool) (words : List ℕ) (at old new : ℕ) (more : List Write) → (old == new) ≡ b → slice_index words at ≡ old
@@ -54,44 +58,69 @@ rises_more : (from at old new : ℕ) (more : List Write) → from ≤ at → ris
     → rises_from from (change_at at old new ++ more) ≡ true
 rises_more from at old new more le h = rises_by (old == new) from at new more le h
 
--- the words of a state, by those that may differ from one state to the next
-abbrev pub words_with : List ℕ → ℕ → ℕ → ℕ → ℕ → ℕ → ℕ → ℕ → List ℕ
-words_with rest run head tail place status ones unknown =
-    0 ∷ run ∷ head ∷ tail ∷ 0 ∷ 0 ∷ 0 ∷ 0 ∷ 0 ∷ 0 ∷ 0 ∷ 0 ∷ 0 ∷ 0 ∷ 0 ∷ 0 ∷ place ∷ status ∷ 0 ∷ 0 ∷ ones ∷ unknown ∷ rest
+-- nothing is written
+pub nothing : (words : List ℕ) (writes : List Write) → writes ≡ [] → IsChange words words writes
+nothing words writes empty = subst (λ (ws : List Write). IsChange words words ws) (sym empty) (record { rises = refl; change = tt; result = refl })
 
--- the writes, right to left
-abbrev chain : (r r' h h' t t' p p' s s' o o' u u' : ℕ) → List Write
-chain r r' h h' t t' p p' s s' o o' u u' =
-    change_at 1 r r' ++ (change_at 2 h h' ++ (change_at 3 t t' ++ (change_at 16 p p' ++ (change_at 17 s s' ++ (change_at 20 o o' ++ (change_at 21 u u' ++ []))))))
+after_none : (old more writes : List Write) → old ≡ [] → writes ≡ old ++ more → writes ≡ more
+after_none old more writes empty is = is ∙ ap (λ ws. ws ++ more) empty
 
-chain_changes : (rest : List ℕ) (r r' h h' t t' p p' s s' o o' u u' : ℕ)
-    → IsChange (words_with rest r h t p s o u) (words_with rest r' h' t' p' s' o' u') (chain r r' h h' t t' p p' s s' o o' u u')
-chain_changes rest r r' h h' t t' p p' s s' o o' u u' = let before = words_with rest r h t p s o u in record {
-  rises = rises_more 0 1 r r' _ (lit≤ tt) (rises_more 2 2 h h' _ (lit≤ tt) (rises_more 3 3 t t' _ (lit≤ tt) (rises_more 4 16 p p' _ (lit≤ tt)
-      (rises_more 17 17 s s' _ (lit≤ tt) (rises_more 18 20 o o' _ (lit≤ tt) (rises_more 21 21 u u' [] (lit≤ tt) refl))))));
-  change =
-      change_more before 1 r r' _ (omega arith) refl (change_more before 2 h h' _ (omega arith) refl (change_more before 3 t t' _ (omega arith) refl
-      (change_more before 16 p p' _ (omega arith) refl (change_more before 17 s s' _ (omega arith) refl (change_more before 20 o o' _ (omega arith) refl
-      (change_more before 21 u u' [] (omega arith) refl tt))))));
-  result =
-      written_change (words_with rest r h t p s o u) 1 r r' _ refl
-      ∙ written_change (words_with rest r' h t p s o u) 2 h h' _ refl
-      ∙ written_change (words_with rest r' h' t p s o u) 3 t t' _ refl
-      ∙ written_change (words_with rest r' h' t' p s o u) 16 p p' _ refl
-      ∙ written_change (words_with rest r' h' t' p' s o u) 17 s s' _ refl
-      ∙ written_change (words_with rest r' h' t' p' s' o u) 20 o o' _ refl
-      ∙ written_change (words_with rest r' h' t' p' s' o' u) 21 u u' [] refl;
-}
+-- the process goes to a place
+pub went : (p : Program) (s : State) (to : ℕ) (old writes : List Write) → old ≡ [] → writes ≡ old ++ change_at 16 s.place to → IsChange (words_of p s) (words_of p (at s to)) writes
+went p s to old writes empty is =
+    let before = words_of p s in
+    subst (λ (ws : List Write). IsChange before (words_of p (at s to)) ws)
+    (sym (after_none old (change_at 16 s.place to) writes empty is ∙ sym (append-nil (change_at 16 s.place to))))
+    (record {
+      rises = rises_more 0 16 s.place to [] (lit≤ tt) refl;
+      change = change_more before 16 s.place to [] (omega arith) refl tt;
+      result = written_change before 16 s.place to [] refl;
+    })
 
--- the writes as they are noted, left to right
-pub noted : (r r' h h' t t' p p' s s' o o' u u' : ℕ)
-    → (((((([] ++ change_at 1 r r') ++ change_at 2 h h') ++ change_at 3 t t') ++ change_at 16 p p') ++ change_at 17 s s') ++ change_at 20 o o') ++ change_at 21 u u'
-    ≡ chain r r' h h' t t' p p' s s' o o' u u'
-noted r r' h h' t t' p p' s s' o o' u u' = simp (append_assoc, append-nil)
+-- the process goes to a place, and the integer gets a number
+pub assigned : (p : Program) (s : State) (to number : ℕ) (old gone writes : List Write) → old ≡ [] → gone ≡ old ++ change_at 16 s.place to
+    → writes ≡ (gone ++ change_at 20 (ones_word s.value) number) ++ change_at 21 (unknown_word s.value) 0
+    → IsChange (words_of p s) (words_of p (record s { place = to; value = Some number })) writes
+assigned p s to number old gone writes empty went is =
+    let before = words_of p s in
+    let place = change_at 16 s.place to in
+    let ones = change_at 20 (ones_word s.value) number in
+    let unknown = change_at 21 (unknown_word s.value) 0 in
+    let all : writes ≡ place ++ (ones ++ (unknown ++ [])) =
+    is ∙ ap (λ ws. (ws ++ ones) ++ unknown) (after_none old place gone empty went) ∙ simp (append_assoc, append-nil) in
+    subst (λ (ws : List Write). IsChange before (words_of p (record s { place = to; value = Some number })) ws) (sym all)
+    (record {
+      rises = rises_more 0 16 s.place to _ (lit≤ tt) (rises_more 17 20 (ones_word s.value) number _ (lit≤ tt) (rises_more 21 21 (unknown_word s.value) 0 [] (lit≤ tt) refl));
+      change = change_more before 16 s.place to _ (omega arith) refl (change_more before 20 (ones_word s.value) number _ (omega arith) refl
+          (change_more before 21 (unknown_word s.value) 0 [] (omega arith) refl tt));
+      result =
+          written_change before 16 s.place to _ refl
+          ∙ written_change (words_of p (at s to)) 20 (ones_word s.value) number _ refl
+          ∙ written_change (slice_set (words_of p (at s to)) 20 number) 21 (unknown_word s.value) 0 [] refl;
+    })
 
-pub noted_changes : (rest : List ℕ) (writes : List Write) (r r' h h' t t' p p' s s' o o' u u' : ℕ)
-    → writes ≡ (((((([] ++ change_at 1 r r') ++ change_at 2 h h') ++ change_at 3 t t') ++ change_at 16 p p') ++ change_at 17 s s') ++ change_at 20 o o') ++ change_at 21 u u'
-    → IsChange (words_with rest r h t p s o u) (words_with rest r' h' t' p' s' o' u') writes
-noted_changes rest writes r r' h h' t t' p p' s s' o o' u u' e =
-    subst (λ (ws : List Write). IsChange (words_with rest r h t p s o u) (words_with rest r' h' t' p' s' o' u') ws)
-    (sym (e ∙ noted r r' h h' t t' p p' s s' o o' u u')) (chain_changes rest r r' h h' t t' p p' s s' o o' u u')
+-- an active process starts to run
+pub started : (p : Program) (place : ℕ) (value : Option ℕ) (old writes : List Write) → old ≡ []
+    → writes ≡ old ++ (record { at = 1; word = 1 } ∷ record { at = 2; word = 0 } ∷ record { at = 3; word = 0 } ∷ record { at = 17; word = 5 } ∷ [])
+    → IsChange (words_of p (record { place = place; status = active; value = value })) (words_of p (record { place = place; status = running; value = value })) writes
+started p place value old writes empty is =
+    subst (λ (ws : List Write). IsChange (words_of p (record { place = place; status = active; value = value })) (words_of p (record { place = place; status = running; value = value })) ws)
+    (sym (after_none old _ writes empty is))
+    (record {
+      rises = refl;
+      change = (omega arith, eqb-false 0 1 refl, (omega arith, eqb-false 1 0 refl, (omega arith, eqb-false 1 0 refl, (omega arith, eqb-false 2 5 refl, tt))));
+      result = refl;
+    })
+
+-- a running process ends
+pub ended : (p : Program) (place : ℕ) (value : Option ℕ) (old writes : List Write) → old ≡ []
+    → writes ≡ old ++ (record { at = 1; word = 0 } ∷ record { at = 17; word = 0 } ∷ [])
+    → IsChange (words_of p (record { place = place; status = running; value = value })) (words_of p (record { place = place; status = halted; value = value })) writes
+ended p place value old writes empty is =
+    subst (λ (ws : List Write). IsChange (words_of p (record { place = place; status = running; value = value })) (words_of p (record { place = place; status = halted; value = value })) ws)
+    (sym (after_none old _ writes empty is))
+    (record {
+      rises = refl;
+      change = (omega arith, eqb-false 1 0 refl, (omega arith, eqb-false 5 0 refl, tt));
+      result = refl;
+    })

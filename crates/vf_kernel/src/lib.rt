@@ -5,10 +5,10 @@
 //! turn reads the stimulus; the layers above use these two contracts and nothing else.
 #![tactic(auto)]
 
+mod instruction;
 mod kernel;
 mod state;
-mod step;
-mod writes;
+mod write;
 
 pub use kernel::{reads_next, turn};
 pub use vf_design::{Mark, Turn, Words};

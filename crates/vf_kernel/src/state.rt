@@ -2,11 +2,12 @@ ghost use Rattle.std.specs.Prelude.{◌≡◌, ℕ, ◌<◌, ◌^◌, Option, If
 ghost use Rattle.vf_design.specs.Program.{IsWellFormed};
 ghost use Rattle.vf_design.specs.State as model;
 ghost use Rattle.vf_design.specs.State.{IsSound};
-ghost use Rattle.vf_design.specs.Step.{at, instruction, is_at_read};
+ghost use Rattle.vf_design.specs.Step.{instruction, is_at_read};
 ghost use Rattle.vf_design.specs.Words.{words_of, status_word, ones_word, unknown_word};
 ghost use Rattle.vf_design.specs.Turn.{HoldsState};
 ghost use Rattle.vf_kernel.specs.State.{state_of, status_of};
 
+use vf_design::layout::{ONES, PLACE, PROCESSES, STATUS, UNKNOWN, VALUES};
 use vf_design::{Design, Instr, Words};
 
 /// Where the process stands in the event queue.
@@ -36,9 +37,9 @@ impl State {
         // A place is in the code, whose length has a limit.
         let _code = &design.code;
         State {
-            place: words.read(16) as u32,
-            status: status_of(words.read(17)),
-            value: value_of(words.read(20), words.read(21)),
+            place: words.read(PROCESSES + PLACE) as u32,
+            status: status_of(words.read(PROCESSES + STATUS)),
+            value: value_of(words.read(VALUES + ONES), words.read(VALUES + UNKNOWN)),
         }
     }
 
@@ -51,13 +52,6 @@ impl State {
             Status::Running => is_getc(design.code[self.place as usize]),
             _ => false,
         }
-    }
-
-    /// The same state at another place.
-    pub fn at(self, place: u32) -> State
-        ensures { state_of result ≡ at (state_of self) place }
-    {
-        State { place, ..self }
     }
 }
 

@@ -3,7 +3,7 @@ use Rattle.std.proofs.Common.{◌≡◌, ◌≢◌, ℕ, zero, suc, ◌+◌, ◌
 use Rattle.std.proofs.lemmas.Bool.{false≢true, cases_lt, leb-true, eqb-true, eqb-false, eq-eqb, ne_eqb, or_left, or_right, or_cases, and_parts, not-true}
 use Rattle.std.proofs.lemmas.List.{get_or-set_same, get_or-set_other, length-set, get_or_past}
 use Rattle.vf_machine.specs.Search.{any_below}
-use Rattle.vf_machine.specs.Writes.{IsChange, AllChange, rises_from, written, writes_page}
+use Rattle.vf_machine.specs.Writes.{IsChange, AllChange, AllInside, rises_from, written, writes_page}
 use Rattle.vf_base.specs.declared.run.Limits.{Limits}
 use Rattle.vf_base.specs.declared.write.Write.{Write}
 use Rattle.vf_machine.specs.Machine.{Machine}
@@ -138,7 +138,7 @@ kept_unwritten before after writes at change within none =
 past_both : (words : List ℕ) (at : ℕ) → length words ≤ at → slice_index words at ≡ 0
 past_both words at h = get_or_past words at 0 h
 
-length-written : (words : List ℕ) (writes : List Write) → length (written words writes) ≡ length words
+pub length-written : (words : List ℕ) (writes : List Write) → length (written words writes) ≡ length words
 length-written words [] = refl
 length-written words (write ∷ more) = length-written (slice_set words write.at write.word) more ∙ length-set words write.at write.word
 
@@ -185,3 +185,8 @@ pub is_touched-suc : {S : Type 0} (m : Machine S) (stim : List ℕ) (limits : Li
     → is_touched m stim limits (suc k) page ≡ is_touched m stim limits k page || page_differs (words_at m stim limits k) (words_at m stim limits (suc k)) page
 unfolding is_touched
 is_touched-suc m stim limits k page = refl
+
+-- the writes of a change are inside the words
+pub all_inside : (words : List ℕ) (writes : List Write) (count : ℕ) → length words ≤ count → AllChange words writes → AllInside count writes
+all_inside words [] count fits change = tt
+all_inside words (write ∷ more) count fits change = (omega (arith, fits, change.0), all_inside words more count fits change.2)

@@ -3,11 +3,11 @@ use Rattle.std.proofs.Common.{◌≡◌, ℕ, zero, suc, ◌+◌, ◌<◌, ◌�
 use Rattle.std.proofs.lemmas.Bool.{false≢true, le-leb, leb-false}
 use Rattle.vf_base.specs.declared.run.Limits.{Limits}
 use Rattle.vf_base.specs.declared.run.SaveKind.{SaveKind}
-use Rattle.vf_machine.specs.Machine.{Machine, Move, go, stop}
+use Rattle.vf_machine.specs.Machine.{Machine, Move, go, stop, stops}
 use Rattle.vf_machine.specs.Search.{first}
-use Rattle.vf_machine.specs.Run.{Moment, Turned, moment_at, turn_of, mark_at, free_turn, performed, sight_at, saved_mark, is_ending}
+use Rattle.vf_machine.specs.Run.{Moment, Turned, moment_at, turn_of, mark_at, free_turn, performed, sight_at, saved_mark, is_ending, is_limit}
 use Rattle.vf_machine.specs.Solo.{turns_before_end}
-use Rattle.vf_machine.specs.Laws.{RunEnds, EndingIsStill}
+use Rattle.vf_machine.specs.Laws.{RunEnds, EndingIsStill, GoesOn}
 use Rattle.vf_machine.proofs.Runs.{moment_at-zero, moment_at-suc, branches, branches_free}
 use Rattle.vf_machine.proofs.Searches.{NoneBelow, Finds, IsFirst, first_finds}
 
@@ -109,3 +109,27 @@ pub before_limit : {S : Type 0} (m : Machine S) (stim : List ℕ) (limits : Limi
 before_limit m stim limits now h =
     leb-false limits.turns now.header.turns
     (below_by (m.drained now.state) (nat_le limits.turns now.header.turns) (nat_lt limits.output (free_turn m stim now).after.header.written) _ _ _ _ refl refl h)
+
+-- a turn that by itself ends no run is an ending only by a limit
+abbrev OnlyLimits : {S : Type 0} → Turned S → Type 0
+OnlyLimits t = is_limit t.mark ≡ is_ending t.mark
+
+limits_by : {S : Type 0} (d t o : Bool) (x y z f : Turned S) → d ≡ false → OnlyLimits y → OnlyLimits z → OnlyLimits f → OnlyLimits (cond d x (cond t y (cond o z (cond d x f))))
+limits_by true t o x y z f e hy hz hf = absurd (false≢true (sym e))
+limits_by false true o x y z f e hy hz hf = hy
+limits_by false false true x y z f e hy hz hf = hz
+limits_by false false false x y z f e hy hz hf = hf
+
+saved_no_limit : (save : Option SaveKind) → is_limit (saved_mark save) ≡ is_ending (saved_mark save)
+saved_no_limit None = refl
+saved_no_limit (Some kind) = refl
+
+moved_by : {S : Type 0} (m : Machine S) (now : Moment S) (move : Move S) → stops move ≡ false → OnlyLimits (performed m now move)
+moved_by m now (go state text save) h = saved_no_limit save
+moved_by m now (stop ending) h = absurd (false≢true (sym h))
+
+pub ends_by_limits : {S : Type 0} (m : Machine S) (stim : List ℕ) (limits : Limits) (now : Moment S) → GoesOn m (sight_at m stim now) now.state
+    → is_limit (turn_of m stim limits now).mark ≡ is_ending (turn_of m stim limits now).mark
+ends_by_limits m stim limits now goes =
+    limits_by (m.drained now.state) (nat_le limits.turns now.header.turns) (nat_lt limits.output (free_turn m stim now).after.header.written)
+    _ _ _ (performed m now (m.move (sight_at m stim now) now.state)) goes.event refl refl (moved_by m now (m.move (sight_at m stim now) now.state) goes.move)

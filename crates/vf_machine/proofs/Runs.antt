@@ -91,11 +91,14 @@ performed-writes : {S : Type 0} (m : Machine S) (now : Moment S) (move : Move S)
 performed-writes m now (go state text save) = omega arith
 performed-writes m now (stop ending) = omega arith
 
+pub free_turn-writes : {S : Type 0} (m : Machine S) (stim : List ℕ) (now : Moment S) → now.header.written ≤ (free_turn m stim now).after.header.written
+free_turn-writes m stim now =
+    branches_free (Writes now) (m.drained now.state) _ _ (omega arith) (performed-writes m now (m.move (sight_at m stim now) now.state))
+
 pub written_grows : {S : Type 0} (m : Machine S) (stim : List ℕ) (limits : Limits) (now : Moment S) → now.header.written ≤ (turn_of m stim limits now).after.header.written
 written_grows m stim limits now =
     branches (Writes now) (m.drained now.state) (nat_le limits.turns now.header.turns) (nat_lt limits.output (free_turn m stim now).after.header.written)
-    _ _ _ _ (omega arith) (omega arith) (omega arith)
-    (branches_free (Writes now) (m.drained now.state) _ _ (omega arith) (performed-writes m now (m.move (sight_at m stim now) now.state)))
+    _ _ _ _ (omega arith) (omega arith) (omega arith) (free_turn-writes m stim now)
 
 -- what no turn lowers is never lower later
 no_lower : (a b c d : ℕ) → a ≤ b → b ≤ c → d ≡ c → a ≤ d

@@ -2,7 +2,7 @@
 use Rattle.std.specs.Prelude.{◌≡◌, ℕ, suc, ◌<◌, ◌≤◌, true, false, List, [], length, take, IfSome, slice_get}
 use Rattle.vf_base.specs.declared.run.Limits.{Limits}
 use Rattle.vf_base.specs.declared.write.Write.{Write}
-use Rattle.vf_machine.specs.Machine.{Machine}
+use Rattle.vf_machine.specs.Machine.{Machine, Sight, stops}
 use Rattle.vf_machine.specs.Run.{moment_at, turn_at, mark_at, text_at, is_ending, is_limit}
 use Rattle.vf_machine.specs.Writes.{IsChange, writes_page}
 use Rattle.vf_machine.specs.Pages.{page_differs, pages_touched}
@@ -35,6 +35,11 @@ pub record RunEnds {S : Type 0} (m : Machine S) (stim : List ℕ) (limits : Limi
 pub record EndingIsStill {S : Type 0} (m : Machine S) (stim : List ℕ) (limits : Limits) (k : ℕ) : Type 0 where
   pub state : (moment_at m stim limits (suc k)).state ≡ (moment_at m stim limits k).state
   pub text : (turn_at m stim limits k).text ≡ []
+
+-- an event is left, and the turn by itself ends no run
+pub record GoesOn {S : Type 0} (m : Machine S) (sight : Sight) (s : S) : Type 0 where
+  pub event : m.drained s ≡ false
+  pub move : stops (m.move sight s) ≡ false
 
 -- a stimulus is bytes
 abbrev pub IsStimulus : List ℕ → Type 0

@@ -1,5 +1,5 @@
 -- A machine: what runs, told apart from the limits that end a run from outside.
-use Rattle.std.specs.Prelude.{ℕ, Bool, List, Option}
+use Rattle.std.specs.Prelude.{ℕ, Bool, true, false, List, Option}
 use Rattle.vf_base.specs.declared.run.SaveKind.{SaveKind}
 use Rattle.vf_base.specs.declared.run.Ending.{Ending}
 
@@ -14,6 +14,10 @@ pub record Sight : Type 0 where
 pub data Move (S : Type 0) : Type 0 where
   go : S → List ℕ → Option SaveKind → Move S
   stop : Ending → Move S
+
+abbrev pub stops : {S : Type 0} → Move S → Bool
+stops (go state text save) = false
+stops (stop ending) = true
 
 -- A machine over states S: its state at time zero, whether no event is left, whether the next turn reads the
 -- stimulus, what a turn does, and the 64-bit words of a state, of which 64 are a page.

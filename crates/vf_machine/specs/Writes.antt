@@ -18,6 +18,11 @@ abbrev pub AllChange : List ℕ → List Write → Type 0
 AllChange words [] = Unit {0}
 AllChange words (write ∷ more) = (write.at < length words) × (slice_index words write.at ≢ write.word) × AllChange words more
 
+-- each address is below the number of words
+abbrev pub AllInside : ℕ → List Write → Type 0
+AllInside count [] = Unit {0}
+AllInside count (write ∷ more) = (write.at < count) × AllInside count more
+
 -- these writes, each by its own address in rising order, are just what differs
 pub record IsChange (before after : List ℕ) (writes : List Write) : Type 0 where
   pub rises : rises_from 0 writes ≡ true

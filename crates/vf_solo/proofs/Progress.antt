@@ -10,12 +10,11 @@ use Rattle.vf_machine.specs.declared.mark.Mark.{Mark}
 use Rattle.vf_machine.specs.declared.mark.Mark.TheVariants as marks
 use Rattle.vf_machine.specs.Search.{count_below}
 use Rattle.vf_machine.specs.Run.{moment_at, text_at, turn_at, turn_of, mark_at, is_ending, words_at}
-use Rattle.vf_machine.specs.Pages.{is_touched, pages_touched, page_differs}
-use Rattle.vf_machine.specs.Pages as machine_pages
+use Rattle.vf_machine.specs.Pages.{page_count, is_touched, pages_touched, page_differs}
 use Rattle.vf_machine.specs.Writes.{IsChange, AllChange, written, writes_page}
 use Rattle.vf_machine.proofs.CallerLemmas.{NoneBelow, none_below_more, reads_once, moment_at-zero, moment_at-suc, text_at-zero, text_at-suc, turn-counts, changed_pages_lem, is_touched-zero, is_touched-suc, KeepsWithin, count_below-ext}
 use Rattle.vf_design.specs.declared.turn.Turn.{Turn}
-use Rattle.vf_design.specs.Program.{Program, page_count, IsWellFormed}
+use Rattle.vf_design.specs.Program.{Program, IsWellFormed}
 use Rattle.vf_design.specs.State.{IsSound}
 use Rattle.vf_design.specs.Step.{start}
 use Rattle.vf_design.specs.Words.{words_of, machine_of}
@@ -23,7 +22,6 @@ use Rattle.vf_design.proofs.CallerLemmas.{start_sound, length-words_of}
 use Rattle.vf_design.specs.Turn.{IsTurn}
 use Rattle.vf_solo.proofs.FlagLemmas.{count_below-none}
 use Rattle.vf_solo.specs.Flags.{flag_at, flags_set, marked}
-use Rattle.vf_solo.specs.Writes.{AllInside}
 
 or_true : (a : Bool) → true ≡ a || true
 or_true true = refl
@@ -33,34 +31,30 @@ or_false : (a : Bool) → a ≡ a || false
 or_false true = refl
 or_false false = refl
 
+-- the pages of a state
+abbrev pub all_pages : Program → ℕ
+all_pages p = page_count (words_of p start)
+
 -- after k turns, none of which ended the run or passed the budget
 pub record IsRunning (p : Program) (stim : List ℕ) (limits : Limits) (budget : ℕ) (words : List ℕ) (touched : List Bool) (header : Header) (text : List ℕ) (k : ℕ) : Type 0 where
   pub header_is : (moment_at (machine_of p) stim limits k).header ≡ header
   pub words_are : words_of p (moment_at (machine_of p) stim limits k).state ≡ words
+  pub formed : IsWellFormed p
   pub sound : IsSound p (moment_at (machine_of p) stim limits k).state
   pub text_is : text ≡ text_at (machine_of p) stim limits k
   pub goes_on : NoneBelow (λ j. is_ending (mark_at (machine_of p) stim limits j)) k
   pub counted : header.turns ≡ k
   pub reads : header.reads ≤ k
-  pub pages : length touched ≡ page_count p
-  pub flags : (page : ℕ) → page < page_count p → flag_at touched page ≡ is_touched (machine_of p) stim limits k page
+  pub pages : length touched ≡ all_pages p
+  pub flags : (page : ℕ) → page < all_pages p → flag_at touched page ≡ is_touched (machine_of p) stim limits k page
   pub within : KeepsWithin (machine_of p) stim limits budget k
 
-pages_alike : (p : Program) → machine_pages.page_count (words_of p start) ≡ page_count p
-pages_alike p = ap (λ n. (n + 63) / 64) (length-words_of p start) ∙ (let e : (64 * page_count p + 63) / 64 ≡ page_count p = omega arith in e)
-
 -- the flags count the pages touched
-pub flags_count : (p : Program) (stim : List ℕ) (limits : Limits) (touched : List Bool) (k : ℕ) → length touched ≡ page_count p
-    → ((page : ℕ) → page < page_count p → flag_at touched page ≡ is_touched (machine_of p) stim limits k page) → flags_set touched ≡ pages_touched (machine_of p) stim limits k
+pub flags_count : (p : Program) (stim : List ℕ) (limits : Limits) (touched : List Bool) (k : ℕ) → length touched ≡ all_pages p
+    → ((page : ℕ) → page < all_pages p → flag_at touched page ≡ is_touched (machine_of p) stim limits k page) → flags_set touched ≡ pages_touched (machine_of p) stim limits k
 flags_count p stim limits touched k pages flags =
     ap (count_below (flag_at touched)) pages
-    ∙ count_below-ext (flag_at touched) (is_touched (machine_of p) stim limits k) (page_count p) flags
-    ∙ ap (count_below (is_touched (machine_of p) stim limits k)) (sym (pages_alike p))
-
--- writes inside the words are on pages of the state
-pub inside_pages : (words : List ℕ) (writes : List Write) (count : ℕ) → length words ≡ count → AllChange words writes → AllInside count writes
-inside_pages words [] count e change = tt
-inside_pages words (write ∷ more) count e change = (omega (arith, change.0), inside_pages words more count e change.2)
+    ∙ count_below-ext (flag_at touched) (is_touched (machine_of p) stim limits k) (all_pages p) flags
 
 length-marked : (flags : List Bool) (writes : List Write) → length (marked flags writes) ≡ length flags
 length-marked flags [] = refl
@@ -82,17 +76,18 @@ flag_of_marked flags (write ∷ more) page within =
 
 -- the run at time zero
 pub running_at_zero : (p : Program) (stim : List ℕ) (limits : Limits) (budget : ℕ) (words : List ℕ) (touched : List Bool) → IsWellFormed p
-    → words ≡ words_of p start → touched ≡ replicate (page_count p) false
+    → words ≡ words_of p start → touched ≡ replicate (all_pages p) false
     → IsRunning p stim limits budget words touched (record { turns = 0; reads = 0; written = 0 }) [] 0
 running_at_zero p stim limits budget words touched wf words_are touched_is =
     let m = machine_of p in
     let zero_moment = moment_at-zero m stim limits in
-    let pages : length touched ≡ page_count p = ap length touched_is ∙ length-replicate (page_count p) false in
-    let flags : (page : ℕ) → page < page_count p → flag_at touched page ≡ is_touched m stim limits 0 page =
-    λ page below. ap (λ fs. flag_at fs page) touched_is ∙ get_or-replicate (page_count p) page false false below ∙ sym (is_touched-zero (machine_of p) stim limits page) in
+    let pages : length touched ≡ all_pages p = ap length touched_is ∙ length-replicate (all_pages p) false in
+    let flags : (page : ℕ) → page < all_pages p → flag_at touched page ≡ is_touched m stim limits 0 page =
+    λ page below. ap (λ fs. flag_at fs page) touched_is ∙ get_or-replicate (all_pages p) page false false below ∙ sym (is_touched-zero (machine_of p) stim limits page) in
     record {
       header_is = ap (λ now. now.header) zero_moment;
       words_are = ap (λ now. words_of p now.state) zero_moment ∙ sym words_are;
+      formed = wf;
       sound = subst (λ now. IsSound p now.state) (sym zero_moment) (start_sound p wf);
       text_is = sym (text_at-zero m stim limits);
       goes_on = λ j below. absurd (omega arith);
@@ -103,7 +98,7 @@ running_at_zero p stim limits budget words touched wf words_are touched_is =
       within = λ j below.
           let first : j ≡ 0 = omega arith in
           ap (λ i. nat_lt budget (pages_touched m stim limits i)) first
-          ∙ ap (nat_lt budget) (count_below-none (is_touched m stim limits 0) (machine_pages.page_count (words_of p start)) (λ page lt. is_touched-zero (machine_of p) stim limits page))
+          ∙ ap (nat_lt budget) (count_below-none (is_touched m stim limits 0) (all_pages p) (λ page lt. is_touched-zero (machine_of p) stim limits page))
           ∙ le-ltb budget 0 (omega arith);
     }
 
@@ -137,16 +132,16 @@ next_turn p stim limits budget words touched header text k next run turn =
 
 -- the flags after the next turn
 pub record NextFlags (p : Program) (stim : List ℕ) (limits : Limits) (touched : List Bool) (k : ℕ) : Type 0 where
-  pub pages : length touched ≡ page_count p
-  pub flags : (page : ℕ) → page < page_count p → flag_at touched page ≡ is_touched (machine_of p) stim limits (suc k) page
+  pub pages : length touched ≡ all_pages p
+  pub flags : (page : ℕ) → page < all_pages p → flag_at touched page ≡ is_touched (machine_of p) stim limits (suc k) page
   pub count : flags_set touched ≡ pages_touched (machine_of p) stim limits (suc k)
 
 pub next_flags : (p : Program) (stim : List ℕ) (limits : Limits) (budget : ℕ) (words : List ℕ) (touched : List Bool) (header : Header) (text : List ℕ) (k : ℕ) (next : Turn)
     → IsRunning p stim limits budget words touched header text k → NextTurn p stim limits words header k next → NextFlags p stim limits (marked touched next.writes.items) k
 next_flags p stim limits budget words touched header text k next run turn =
     let m = machine_of p in
-    let pages : length (marked touched next.writes.items) ≡ page_count p = length-marked touched next.writes.items ∙ run.pages in
-    let flags : (page : ℕ) → page < page_count p → flag_at (marked touched next.writes.items) page ≡ is_touched m stim limits (suc k) page =
+    let pages : length (marked touched next.writes.items) ≡ all_pages p = length-marked touched next.writes.items ∙ run.pages in
+    let flags : (page : ℕ) → page < all_pages p → flag_at (marked touched next.writes.items) page ≡ is_touched m stim limits (suc k) page =
     λ page below.
     flag_of_marked touched next.writes.items page (omega (arith, run.pages))
     ∙ ap₂ ◌||◌ (run.flags page below)
@@ -174,6 +169,7 @@ advance p stim limits budget words touched header text k next run turn going fit
     record {
       header_is = ap (λ n. n.header) (moment_at-suc m stim limits k) ∙ sym turn.header_is;
       words_are = sym turn.change.result;
+      formed = run.formed;
       sound = turn.sound;
       text_is = ap₂ ◌++◌ run.text_is turn.text ∙ sym (text_at-suc m stim limits k);
       goes_on = none_below_more (λ j. is_ending (mark_at m stim limits j)) k run.goes_on not_ended;
@@ -194,7 +190,10 @@ not_ended marks.Plain h = refl
 not_ended (marks.Saved kind) h = refl
 not_ended (marks.Ended ending) h = absurd (h ending refl)
 
+-- the words fit into the pages
 pub length-words : (p : Program) (stim : List ℕ) (limits : Limits) (budget : ℕ) (words : List ℕ) (touched : List Bool) (header : Header) (text : List ℕ) (k : ℕ)
-    → IsRunning p stim limits budget words touched header text k → length words ≡ 64 * length touched
+    → IsRunning p stim limits budget words touched header text k → length words ≤ 64 * length touched
 length-words p stim limits budget words touched header text k run =
-    ap length (sym run.words_are) ∙ length-words_of p (moment_at (machine_of p) stim limits k).state ∙ ap (λ n. 64 * n) (sym run.pages)
+    let now = ap length (sym run.words_are) ∙ length-words_of p (moment_at (machine_of p) stim limits k).state run.sound in
+    let zero = length-words_of p start (start_sound p run.formed) in
+    omega (arith, now, zero, run.pages)

@@ -1,8 +1,10 @@
-ghost use Rattle.std.specs.Prelude.{◌≡◌, vec_len};
-ghost use Rattle.vf_machine.specs.Writes.{written};
-ghost use Rattle.vf_solo.specs.Writes.{AllInside};
+ghost use Rattle.std.specs.Prelude.{◌≡◌, ◌*◌, length, vec_len};
+ghost use Rattle.vf_base.specs.declared.write.TheConstants.{PAGE_WORDS};
+ghost use Rattle.vf_machine.specs.Writes.{AllInside, written};
+ghost use Rattle.vf_solo.specs.Flags.{marked};
 
-use vf_base::Write;
+use crate::touched::Touched;
+use vf_base::{PAGE_WORDS, Write};
 use vf_design::Words;
 
 /// All words of a state in one list.
@@ -27,12 +29,15 @@ impl Words for Flat {
     }
 }
 
-/// Performs the writes.
-pub fn perform(words: &mut Vec<u64>, writes: &[Write])
-    requires { AllInside (vec_len words.old) writes.now }
-    ensures { words.new.items ≡ written words.old.items writes.now }
+/// Performs the writes of a turn, and marks their pages as touched.
+pub fn write_all(writes: &[Write], words: &mut Vec<u64>, touched: &mut Touched)
+    requires words { AllInside (vec_len words.old) writes.now }
+    requires pages { AllInside (PAGE_WORDS * length touched.old) writes.now }
+    ensures words { words.new.items ≡ written words.old.items writes.now }
+    ensures pages { touched.new ≡ marked touched.old writes.now }
 {
     for write in writes {
         words[write.at as usize] = write.word;
+        touched.mark(write.at / PAGE_WORDS);
     }
 }

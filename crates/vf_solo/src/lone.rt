@@ -1,12 +1,12 @@
-ghost use Rattle.std.specs.Prelude.{◌≡◌, ◌+◌, ◌-◌, ◌<◌, ◌≤◌, ◌^◌, IfOk, OnOk};
+ghost use Rattle.std.specs.Prelude.{◌≡◌, ◌+◌, ◌-◌, ◌<◌, ◌≤◌, ◌^◌, ◌++◌, IfOk, OnOk};
 ghost use Rattle.vf_machine.specs.Solo.{solo, solo_turns};
 ghost use Rattle.vf_design.specs.Words.{machine_of};
 
-use crate::flat::{Flat, perform};
+use crate::flat::{Flat, write_all};
 use crate::touched::Touched;
 use std::alloc::Global;
 use std::sync::ledger::Ledger;
-use vf_base::{Header, Limits, Memory, Outcome, Steps, Text};
+use vf_base::{Header, Limits, Memory, Outcome, PAGE_WORDS, Steps, Text};
 use vf_design::{Design, Mark, Turn, words_at_zero};
 use vf_kernel::turn;
 
@@ -31,7 +31,7 @@ pub fn solo<L: Ledger>(
         words: words_at_zero(alloc, design)?,
         past_end: false,
     };
-    let mut touched = Touched::new(alloc, design.word_count() / 64)?;
+    let mut touched = Touched::new(alloc, design.word_count() / PAGE_WORDS)?;
     let mut text = Text::new(Vec::new(alloc));
     let mut header = Header {
         turns: 0,
@@ -51,14 +51,23 @@ pub fn solo<L: Ledger>(
                 turns: next.header.turns,
             });
         }
-        touched.mark(&next.writes);
+        write_all(&next.writes, &mut flat.words, &mut touched);
         if touched.count() > budget {
             return Ok(Outcome::Pages(touched.count()));
         }
         steps.tick();
-        text.push_all(next.text.bytes())?;
-        perform(&mut flat.words, &next.writes);
+        append(next.text.bytes(), &mut text)?;
         header = next.header;
         flat.past_end = header.reads > stim.len() as u64;
     }
+}
+
+/// Appends the bytes of a turn; most turns have none.
+fn append(bytes: &[u8], text: &mut Text) -> Result<(), Memory>
+    ensures { IfOk result (λ _. text.new ≡ text.old ++ bytes.now) }
+{
+    if bytes.is_empty() {
+        return Ok(());
+    }
+    text.push_all(bytes)
 }

@@ -1,102 +1,41 @@
-ghost use Rattle.std.specs.Prelude.{◌≡◌, ◌-◌, ◌<◌, ◌^◌, IfOk};
-ghost use Rattle.vf_design.specs.Program.{IsCode};
-
-use crate::solo;
-use std::alloc::{AllocError, Global};
-use std::marker::Brand;
-use std::sync::ledger::{Blank, Ledger};
+use crate::flat::write_all;
+use crate::touched::Touched;
 use std::test::Fail;
-use vf_base::{Ending, Limits, Outcome, Steps, Text};
-use vf_design::{Condition, Design, Instr};
+use vf_base::Write;
 
-fn text(alloc: Global, bytes: &[u8]) -> Result<Text, AllocError> {
-    Ok(Text::new(Vec::from_slice(alloc, bytes)?))
+#[rattlefmt::skip]
+fn write(at: u32, word: u64) -> Write {
+    Write { at, word }
 }
 
-/// Writes each byte of the stimulus, and ends at its end.
-fn code(alloc: Global) -> Result<Vec<Instr>, AllocError>
-    ensures { IfOk result (λ code. IsCode code.items) }
-{
-    let mut code = Vec::new(alloc);
-    code.push(Instr::Getc)?;
-    code.push(Instr::Unless {
-        condition: Condition {
-            equal: false,
-            number: u32::MAX,
-        },
-        to: 4,
-    })?;
-    code.push(Instr::Show)?;
-    code.push(Instr::Jump(0))?;
-    code.push(Instr::Finish(3))?;
-    code.push(Instr::Halt)?;
-    Ok(code)
-}
-
-fn echo(alloc: Global) -> Result<Design, AllocError> {
-    Ok(Design {
-        top: text(alloc, b"echo")?,
-        variable: text(alloc, b"c")?,
-        code: code(alloc)?,
-        slots: 1,
-    })
-}
-
-/// The solo run on "ab", or nothing where it is out of memory.
-fn outcome<L: Ledger>(
-    alloc: Global,
-    limits: &Limits,
-    budget: u32,
-    blank: Blank,
-) -> Result<Option<Outcome>, AllocError>
-    requires name { blank.name ≡ L.name }
-    requires parts { blank.parts ≡ L.parts }
-    requires turns { limits.now.turns < 2 ^ 64 - 1 }
-{
-    let (_, share) = blank.open::<L>();
-    let mut steps = Steps::new(share);
-    let design = echo(alloc)?;
-    Ok(solo(alloc, &design, b"ab", limits, budget, &mut steps).ok())
-}
-
+/// Writes on four pages, two of them on one page and one on a page that was touched before.
 #[test]
-fn a_lone_run_ends(rt: HostRuntime) -> Result<(), Fail> {
-    // the limits on turns and on output, the ending, the bytes, and the turns performed
-    for (turns, output, want, written, count) in [
-        (13u64, 2u64, Ending::Finish(3), "ab", 12u64),
-        (12, 2, Ending::Finish(3), "ab", 12),
-        (11, 2, Ending::Turns, "ab", 11),
-        (12, 1, Ending::Output, "a", 8),
+fn counts_each_page_once(rt: HostRuntime) -> Result<(), Fail> {
+    let mut words = vec![in rt.alloc(); 0u64; 320]?;
+    let mut touched = Touched::new(rt.alloc(), 5)?;
+    assert_eq!(rt; touched.count(), 0);
+    write_all(
+        &[write(0, 7), write(63, 8), write(64, 9)],
+        &mut words,
+        &mut touched,
+    );
+    assert_eq!(rt; touched.count(), 2);
+    write_all(
+        &[write(127, 1), write(191, 2), write(319, 3)],
+        &mut words,
+        &mut touched,
+    );
+    assert_eq!(rt; touched.count(), 4);
+    for (at, word) in [
+        (0usize, 7u64),
+        (63, 8),
+        (64, 9),
+        (127, 1),
+        (191, 2),
+        (319, 3),
+        (318, 0),
     ] {
-        let limits = Limits { turns, output };
-        let answer = outcome::<Brand>(rt.alloc(), &limits, 1, Blank::new(1))?;
-        let Some(
-            Outcome::Done {
-                ending,
-                text,
-                turns,
-            },
-        ) = answer
-        else {
-            panic!(rt; "the run does not end");
-        };
-        assert_eq!(rt; ending, want);
-        assert_eq!(rt; text.bytes(), written.as_bytes());
-        assert_eq!(rt; turns, count);
+        assert_eq!(rt; words[at], word, "at {at}");
     }
-    Ok(())
-}
-
-#[test]
-fn a_lone_run_passes_its_budget(rt: HostRuntime) -> Result<(), Fail> {
-    let limits = Limits {
-        turns: 12,
-        output: 2,
-    };
-    let answer = outcome::<Brand>(rt.alloc(), &limits, 0, Blank::new(1))?;
-    let Some(Outcome::Pages(pages)) = answer else {
-        panic!(rt; "the run keeps to its budget");
-    };
-    assert_eq!(rt; pages, 1);
     Ok(())
 }

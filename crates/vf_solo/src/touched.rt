@@ -1,10 +1,9 @@
-ghost use Rattle.std.specs.Prelude.{◌≡◌, ◌*◌, ◌<◌, ◌≤◌, ◌^◌, true, false, length, replicate, slice_set, IfOk};
-ghost use Rattle.vf_solo.specs.Flags.{flags_set, marked};
-ghost use Rattle.vf_solo.specs.Writes.{AllInside};
+ghost use Rattle.std.specs.Prelude.{◌≡◌, ◌<◌, ◌≤◌, ◌^◌, true, false, length, replicate, slice_set, IfOk};
+ghost use Rattle.vf_solo.specs.Flags.{flags_set};
 
 use std::alloc::Global;
 use std::marker::Model;
-use vf_base::{Memory, PAGE_WORDS, Write};
+use vf_base::Memory;
 
 /// The pages that a run has touched, and how many they are. Contracts see a flag for each page.
 #[derive(Drop)]
@@ -42,20 +41,12 @@ impl Touched {
         self.count
     }
 
-    /// Touches the pages of the writes.
-    pub fn mark(&mut self, writes: &[Write])
-        requires { AllInside (64 * length self.old) writes.now }
-        ensures { self.new ≡ marked self.old writes.now }
-    {
-        for write in writes {
-            self.mark_page((write.at / PAGE_WORDS) as usize);
-        }
-    }
-
-    fn mark_page(&mut self, page: usize)
+    /// Touches a page.
+    pub fn mark(&mut self, page: u32)
         requires { page < length self.old }
         ensures { self.new ≡ slice_set self.old page true }
     {
+        let page = page as usize;
         if !self.flags[page] {
             self.flags[page] = true;
             self.count += 1;

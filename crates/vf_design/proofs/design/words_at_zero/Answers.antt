@@ -10,5 +10,5 @@ split n h = ap (λ k. replicate {A = ℕ} k 0) (let e : n ≡ 22 + (n - 22) = om
 pub returns-clause-words : goal.returns-clause-words
 returns-clause-words c =
     let count = word_count c.args.design.now in
-    let zeros : c.in_ok-words.words.items ≡ replicate {A = ℕ} count 0 = c.in_ok-words.ensures.items_if_clones_equal (λ y e. e) ∙ ap (λ k. replicate {A = ℕ} k 0) c.word_count-count.ensures.count in
+    let zeros : c.in_ok-words.words.items ≡ replicate {A = ℕ} count 0 = c.in_ok-words.ensures.items_if_clones_equal (λ y e. e) ∙ ap (λ k. replicate {A = ℕ} k 0) c.size-count.ensures.count in
     ap (λ words. slice_set (slice_set (slice_set (slice_set (slice_set words 2 1) 3 1) 17 2) 20 4294967295) 21 4294967295) (zeros ∙ split count (omega arith))

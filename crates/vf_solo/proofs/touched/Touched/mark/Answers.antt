@@ -2,7 +2,7 @@ use Rattle.std.proofs.Common.{◌≡◌, ℕ, ◌+◌, ◌<◌, Bool, true, fals
 use Rattle.std.proofs.lemmas.List.{length-set}
 use Rattle.vf_solo.specs.Flags.{flag_at, flags_set}
 use Rattle.vf_solo.proofs.FlagLemmas.{flags_set-one, flags_set-le}
-use Rattle.vf_solo.proofs.touched.Touched.mark_page.Goals as goal
+use Rattle.vf_solo.proofs.touched.Touched.mark.Goals as goal
 
 -- a flag that was read as not set is not set
 flag_off : (flags : List Bool) (page : ℕ) (read : Bool) → read ≡ get_or flags page read → read ≡ false → flag_at flags page ≡ false
