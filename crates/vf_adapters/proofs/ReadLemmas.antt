@@ -1,10 +1,9 @@
 -- What a reader gave, as a shelf tells a file.
-use Rattle.std.proofs.Common.{◌≡◌, ℕ, ◌+◌, ◌<◌, ◌≤◌, List, [], ◌++◌, length, take, drop, Option, Some, None, Result, Ok, Err, refl, sym, ◌∙◌, ap, arith, append_assoc, append-nil, length-append}
+use Rattle.std.proofs.Common.{◌≡◌, ℕ, ◌+◌, ◌<◌, List, ◌++◌, length, take, Option, Some, None, Ok, Err, sym, ◌∙◌, ap, arith, append_assoc, append-nil, length-append}
 use Rattle.std.specs.Io.{StartsWith, appended_bytes}
-use Rattle.std.specs.Io.KnownBytes.{Consumes, Keeps, IsAtEnd}
+use Rattle.std.specs.Io.KnownBytes.{Consumes, IsAtEnd}
 use Rattle.std.proofs.Math.Seq.{take-append_seam}
 use Rattle.std.proofs.KnownBytes.{starts_with_rest}
-use Rattle.vf_ports.specs.declared.shelf.ShelfRefusal.{ShelfRefusal}
 use Rattle.vf_ports.specs.declared.shelf.ShelfRefusal.TheVariants.{Failed, TooLong, Memory}
 use Rattle.vf_ports.specs.Shelf.{Fetches}
 use Rattle.vf_adapters.specs.Reading.{told_by}

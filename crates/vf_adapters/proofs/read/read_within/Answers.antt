@@ -1,6 +1,4 @@
-use Rattle.std.proofs.Common.{List, ℕ, arith, subst}
-use Rattle.std.specs.Io.{StartsWith, appended_bytes}
-use Rattle.std.specs.Io.KnownBytes.{Consumes}
+use Rattle.std.proofs.Common.{arith}
 use Rattle.vf_adapters.proofs.ReadLemmas.{failed, unkept, too_long}
 use Rattle.vf_adapters.proofs.read.read_within.Goals as goal
 
