@@ -21,6 +21,3 @@ pub use fault::{LexFault, LexKind};
 pub use token::Token;
 pub use vf_lexeme::TokenKind;
 pub use whole::tokens;
-
-#[cfg(test)]
-mod tests;

@@ -20,6 +20,3 @@ pub use kinds::{Lexeme, LexemeFault, OpenFault, Passed, TokenKind};
 pub use names::name;
 pub use read::{lexeme, passed};
 pub use vf_number::is_blank;
-
-#[cfg(test)]
-mod tests;

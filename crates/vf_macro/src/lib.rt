@@ -13,6 +13,3 @@ mod scan;
 
 pub use lines::{begins_with, behind_line};
 pub use scan::macro_text;
-
-#[cfg(test)]
-mod tests;

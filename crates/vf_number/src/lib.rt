@@ -18,6 +18,3 @@ pub use classes::{begins_number, is_blank, is_digit};
 pub use fault::NumberFault;
 pub use numbers::number;
 pub use runs::ByteClass;
-
-#[cfg(test)]
-mod tests;

@@ -1,6 +1,6 @@
 //! Bytes with the text of a macro that they begin with, and its rest.
 
-use crate::macro_text;
+use vf_macro::macro_text;
 use std::test::Fail;
 
 /// Bytes, the text and the rest.

@@ -2,7 +2,7 @@
 //! a sign, `W` a word, `Y` a system name, `Q` a string; `#7@1:1` is a plain number, and `#4s'12/5@1:1` one of 4 bits with a
 //! sign, by its planes of ones and of unknown bits. A first fault is spelled by its number and its place, as `!6@2:1`.
 
-use crate::{LexFault, Token, TokenKind, tokens};
+use vf_lex::{LexFault, Token, TokenKind, tokens};
 use std::alloc::{AllocError, Global};
 use std::test::Fail;
 use vf_base::{Memory, Place, write_decimal};

@@ -1,4 +1,4 @@
-use crate::{Lexeme, LexemeFault, OpenFault, Passed, TokenKind, lexeme, name, passed};
+use vf_lexeme::{Lexeme, LexemeFault, OpenFault, Passed, TokenKind, lexeme, name, passed};
 use std::alloc::{AllocError, Global};
 use std::test::Fail;
 use vf_fours::Fours;

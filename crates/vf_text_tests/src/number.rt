@@ -1,4 +1,4 @@
-use crate::{NumberFault, begins_number, number};
+use vf_number::{NumberFault, begins_number, number};
 use std::test::Fail;
 
 /// A text, how long its number is, the width, whether it is signed, and the planes of its bits (ones, then bits not known).
