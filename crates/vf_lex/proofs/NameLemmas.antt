@@ -6,8 +6,8 @@ use Rattle.std.proofs.lemmas.Slice.Eq.{bytes_eq-Decides}
 use Rattle.std.proofs.Math.Seq.{drop-append_seam}
 use Rattle.vf_lexeme.specs.Bytes.{begins_name, is_name_byte, Ends}
 use Rattle.vf_lexeme.specs.Words.{IsName, IsNameAt, named as named_case, unnamed}
-use Rattle.vf_macro.proofs.CallerLemmas.{run_of}
-use Rattle.vf_lex.specs.Names.{name_of, behind_name}
+use Rattle.vf_number.proofs.CallerLemmas.{run_of}
+use Rattle.vf_lex.specs.Names.{name_of, after_name}
 
 front_of : (name rest : List ℕ) → IsName name → Ends is_name_byte rest → name_of (name ++ rest) ≡ name
 unfolding name_of
@@ -23,9 +23,9 @@ pub named : (text name rest : List ℕ) → IsNameAt text name rest → name ≡
 named text name rest (named_case is ends e) = rw (e, front_of name rest is ends) refl
 named text name rest (unnamed ends e _) = rw (e, no_front text ends) refl
 
-pub behind : (text name rest : List ℕ) → IsNameAt text name rest → rest ≡ behind_name text
-behind text name rest (named_case is ends e) = rw (e, front_of name rest is ends, drop-append_seam name rest) refl
-behind text name rest (unnamed ends e e2) = rw (e2, no_front text ends) refl
+pub after : (text name rest : List ℕ) → IsNameAt text name rest → rest ≡ after_name text
+after text name rest (named_case is ends e) = rw (e, front_of name rest is ends, drop-append_seam name rest) refl
+after text name rest (unnamed ends e e2) = rw (e2, no_front text ends) refl
 
 pub lengths_differ : (a b : List ℕ) → length a ≢ length b → false ≡ bytes_eq a b
 lengths_differ a b h = elim (cases_Bool (bytes_eq a b)) [

@@ -24,7 +24,7 @@ module _ (begins : BeginsOnce) (passes : PassesOnce) (macro_texts : MacroTextsOn
   does_once place now text one other (passed seen t b e) (passed seen_2 _ c f) = e
       ∙ ap (passed_effect place now) (passes text seen seen_2 b c) ∙ sym f
 
-  -- how the reading goes on behind the use of a macro
+  -- how the reading goes on after the use of a macro
   data AfterUse (spot : Spot) (now : Around) (text body rest : List ℕ) (end : End) : Type 0 where
     used : (next : Around) → use_fault spot now body ≡ None → Reads (nested spot) (with_use now body) body (Ended next)
         → Reads (moved spot (before text rest)) next rest end → AfterUse spot now text body rest end
@@ -33,7 +33,7 @@ module _ (begins : BeginsOnce) (passes : PassesOnce) (macro_texts : MacroTextsOn
     refused : (kind : LexKind) → use_fault spot now body ≡ Some kind → end ≡ Stopped (fault_at kind spot)
         → AfterUse spot now text body rest end
 
-  -- how the reading goes on behind an element of this effect
+  -- how the reading goes on after an element of this effect
   abbrev Follows : Spot → Around → List ℕ → End → Effect → Type 0
   Follows spot now text end (Goes next rest) = Reads (moved spot (before text rest)) next rest end
   Follows spot now text end (Defines name bytes) =

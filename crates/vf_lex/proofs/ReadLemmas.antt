@@ -71,7 +71,7 @@ pub passed_fault : (place : Place) (now : Around) (text : List ℕ) (fault : Ope
     → FailsWith kind place now text
 passed_fault place now text fault kind t b is h = passed (Err fault) t b (ap Stops is)
 
--- ---- reading on behind an element
+-- ---- reading on after an element
 
 pub some_from : (n : ℕ) → false ≡ (n == 0) → 0 < n
 some_from zero e = absurd cc

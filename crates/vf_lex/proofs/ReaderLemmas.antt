@@ -56,7 +56,7 @@ module _ {K V : Type 0} (items : K → List ℕ) (text_of : V → List ℕ) wher
   chosen true None found = refl
   chosen false text found = refl
 
-  -- the macros behind a definition
+  -- the macros after a definition
   pub defined : (old new : List (K × Option V)) (key : K) (name : List ℕ) (text : Option V)
       → new ≡ insert_entry (λ k l. bytes_eq (items k) (items l)) old key text → items key ≡ name
       → ◌≡◌ {A = List ℕ → Option (List ℕ)} (texts new)
@@ -67,7 +67,7 @@ module _ {K V : Type 0} (items : K → List ℕ) (text_of : V → List ℕ) wher
       ∙ chosen (bytes_eq other (items key)) text (lookup (λ k. bytes_eq other (items k)) old)
       ∙ ap (λ n. cond (bytes_eq other n) (option_map text_of text) (texts old other)) is)
 
--- the conditions behind an `endif`
+-- the conditions after an `endif`
 pub popped : (now : Around) (old new : List Condition) (result : Option Condition) (before after : ℕ)
     → now.conditions ≡ reverse old → old ≡ new ++ option_to_list result
     → before ≡ length old → MatchOption result ((before ≡ 0) × (after ≡ 0)) (λ _. after + 1 ≡ before)

@@ -5,7 +5,7 @@ use Rattle.vf_base.specs.declared.names.Place.{Place}
 use Rattle.vf_lexeme.specs.declared.kinds.Lexeme.TheVariants as lexemes
 use Rattle.vf_lexeme.specs.declared.kinds.TokenKind.{TokenKind}
 use Rattle.vf_lexeme.specs.declared.kinds.Passed.TheVariants as passed_kinds
-use Rattle.vf_lexeme.specs.Laws.{BeginsSome, BeginsTakes, PassesSome, PassesTakes, IsBehind}
+use Rattle.vf_lexeme.specs.Laws.{BeginsSome, BeginsTakes, PassesSome, PassesTakes, IsRest}
 use Rattle.vf_lexeme.specs.Lexemes.{Seen, SeenPassing, Begins, Passes}
 use Rattle.vf_macro.specs.Laws.{MacroTextsSome}
 use Rattle.vf_lex.specs.declared.directive.Branching.{Branching}
@@ -19,11 +19,13 @@ use Rattle.vf_lex.specs.declared.reader.Condition.{Condition}
 use Rattle.vf_lex.specs.declared.spot.Spot.{Spot}
 use Rattle.vf_lex.specs.declared.token.Token.{Token}
 use Rattle.vf_lex.specs.Around.{Around, End, Ended, Stopped, nothing_yet, is_taken, with_macro, with_use}
-use Rattle.vf_lex.specs.Directives.{Effect, Goes, Defines, Uses, Stops, branching_of, directive_of, opens, turns, turns_last, closes, branches, defines, undefines, uses, directs, directs_or_branches, directed}
-use Rattle.vf_lex.specs.Elements.{takes, taken_effect, passed_effect, Does, taken, passed}
-use Rattle.vf_lex.specs.Names.{name_of, behind_name, behind_blanks, behind_line_blanks}
+use Rattle.vf_lex.specs.Directives.{Effect, Goes, Defines, Uses, Stops, branching_of, directive_of, ifdef_effect, elsif_effect, else_effect, endif_effect, condition_effect, define_effect, undef_effect, use_effect, other_effect, chosen_effect, directive_effect}
+use Rattle.vf_lex.specs.Elements.{token_effect, taken_effect, passed_effect, Does, taken, passed}
+use Rattle.vf_number.proofs.CallerLemmas.{after_run_within}
+use Rattle.vf_lexeme.specs.Bytes.{is_blank, is_no_newline}
+use Rattle.vf_lex.specs.Names.{name_of, after_name, after_blanks, is_line_blank, after_line_blanks}
 use Rattle.vf_lex.specs.Places.{moved, nested, before}
-use Rattle.vf_lex.specs.Reads.{Reads, fault_at, use_fault, ends, goes, defines as reads_defines, uses as reads_uses, use_stops, use_refused, stops}
+use Rattle.vf_lex.specs.Reads.{Reads, fault_at, use_fault, ends, goes, defines, uses, use_stops, use_refused, stops}
 use Rattle.vf_lex.specs.Tokens.{first_spot, IsTokens, IsFirstFault, stopped, open_end, TokensAreSome}
 use Rattle.vf_lex.proofs.PlaceLemmas.{moved_depth}
 
@@ -47,84 +49,84 @@ leaves_more m n (Stops kind) h l = tt
 dropped : (k : ℕ) (bytes : List ℕ) → length (drop k bytes) ≤ length bytes
 dropped k bytes = omega (arith, length-drop k bytes)
 
-after_name : (bytes rest : List ℕ) → length rest ≤ length bytes → length (behind_name rest) ≤ length bytes
-after_name bytes rest h = omega (arith, dropped (length (name_of rest)) rest, h)
+name_within : (bytes rest : List ℕ) → length rest ≤ length bytes → length (after_name rest) ≤ length bytes
+name_within bytes rest h = omega (arith, dropped (length (name_of rest)) rest, h)
 
-turns_leaves : (n : ℕ) (now : Around) (conditions : List Condition) (bytes : List ℕ) → length bytes ≤ n
-    → Leaves n (turns now conditions bytes)
-turns_leaves n now [] bytes h = tt
-turns_leaves n now (condition ∷ outer) bytes h =
-    leaves_either n (condition.closed || eqb (length (name_of bytes)) 0) (Stops _) (Goes _ (behind_name bytes)) tt
-    (omega (arith, h, after_name bytes bytes (omega arith)))
+elsif_leaves : (n : ℕ) (now : Around) (conditions : List Condition) (bytes : List ℕ) → length bytes ≤ n
+    → Leaves n (elsif_effect now conditions bytes)
+elsif_leaves n now [] bytes h = tt
+elsif_leaves n now (condition ∷ outer) bytes h =
+    leaves_either n (condition.closed || eqb (length (name_of bytes)) 0) (Stops _) (Goes _ (after_name bytes)) tt
+    (omega (arith, h, name_within bytes bytes (omega arith)))
 
-last_leaves : (n : ℕ) (now : Around) (conditions : List Condition) (rest : List ℕ) → length rest ≤ n
-    → Leaves n (turns_last now conditions rest)
-last_leaves n now [] rest h = tt
-last_leaves n now (condition ∷ outer) rest h = leaves_either n condition.closed (Stops _) (Goes _ rest) tt h
+else_leaves : (n : ℕ) (now : Around) (conditions : List Condition) (rest : List ℕ) → length rest ≤ n
+    → Leaves n (else_effect now conditions rest)
+else_leaves n now [] rest h = tt
+else_leaves n now (condition ∷ outer) rest h = leaves_either n condition.closed (Stops _) (Goes _ rest) tt h
 
-closes_leaves : (n : ℕ) (now : Around) (conditions : List Condition) (rest : List ℕ) → length rest ≤ n
-    → Leaves n (closes now conditions rest)
-closes_leaves n now [] rest h = tt
-closes_leaves n now (condition ∷ outer) rest h = h
+endif_leaves : (n : ℕ) (now : Around) (conditions : List Condition) (rest : List ℕ) → length rest ≤ n
+    → Leaves n (endif_effect now conditions rest)
+endif_leaves n now [] rest h = tt
+endif_leaves n now (condition ∷ outer) rest h = h
 
-opens_leaves : (n : ℕ) (wanted : Bool) (place : Place) (now : Around) (bytes : List ℕ) → length bytes ≤ n
-    → Leaves n (opens wanted place now bytes)
-opens_leaves n wanted place now bytes h =
-    leaves_either n (eqb (length (name_of bytes)) 0) (Stops _) (Goes _ (behind_name bytes)) tt
-    (omega (arith, h, after_name bytes bytes (omega arith)))
+ifdef_leaves : (n : ℕ) (wanted : Bool) (place : Place) (now : Around) (bytes : List ℕ) → length bytes ≤ n
+    → Leaves n (ifdef_effect wanted place now bytes)
+ifdef_leaves n wanted place now bytes h =
+    leaves_either n (eqb (length (name_of bytes)) 0) (Stops _) (Goes _ (after_name bytes)) tt
+    (omega (arith, h, name_within bytes bytes (omega arith)))
 
-branches_leaves : (branching : Branching) (place : Place) (now : Around) (bytes : List ℕ)
-    → Leaves (length bytes) (branches branching place now bytes)
-unfolding branches
-branches_leaves Ifdef place now bytes = opens_leaves (length bytes) true place now (behind_blanks bytes) (dropped _ bytes)
-branches_leaves Ifndef place now bytes = opens_leaves (length bytes) false place now (behind_blanks bytes) (dropped _ bytes)
-branches_leaves Elsif place now bytes = turns_leaves (length bytes) now now.conditions (behind_blanks bytes) (dropped _ bytes)
-branches_leaves Else place now bytes = last_leaves (length bytes) now now.conditions bytes (omega arith)
-branches_leaves Endif place now bytes = closes_leaves (length bytes) now now.conditions bytes (omega arith)
+condition_leaves : (branching : Branching) (place : Place) (now : Around) (bytes : List ℕ)
+    → Leaves (length bytes) (condition_effect branching place now bytes)
+unfolding condition_effect
+condition_leaves Ifdef place now bytes = ifdef_leaves (length bytes) true place now (after_blanks bytes) (after_run_within is_blank bytes)
+condition_leaves Ifndef place now bytes = ifdef_leaves (length bytes) false place now (after_blanks bytes) (after_run_within is_blank bytes)
+condition_leaves Elsif place now bytes = elsif_leaves (length bytes) now now.conditions (after_blanks bytes) (after_run_within is_blank bytes)
+condition_leaves Else place now bytes = else_leaves (length bytes) now now.conditions bytes (omega arith)
+condition_leaves Endif place now bytes = endif_leaves (length bytes) now now.conditions bytes (omega arith)
 
-defines_leaves : (n : ℕ) (bytes : List ℕ) → length bytes ≤ n → Leaves n (defines bytes)
-defines_leaves n bytes h =
+define_leaves : (n : ℕ) (bytes : List ℕ) → length bytes ≤ n → Leaves n (define_effect bytes)
+define_leaves n bytes h =
     leaves_either n (eqb (length (name_of bytes)) 0) (Stops _) _ tt
-    (leaves_either n _ (Stops _) (Defines (name_of bytes) (behind_name bytes)) tt
-    (omega (arith, h, after_name bytes bytes (omega arith))))
+    (leaves_either n _ (Stops _) (Defines (name_of bytes) (after_name bytes)) tt
+    (omega (arith, h, name_within bytes bytes (omega arith))))
 
-undefines_leaves : (n : ℕ) (now : Around) (bytes : List ℕ) → length bytes ≤ n → Leaves n (undefines now bytes)
-undefines_leaves n now bytes h =
-    leaves_either n (eqb (length (name_of bytes)) 0) (Stops _) (Goes _ (behind_name bytes)) tt
-    (omega (arith, h, after_name bytes bytes (omega arith)))
+undef_leaves : (n : ℕ) (now : Around) (bytes : List ℕ) → length bytes ≤ n → Leaves n (undef_effect now bytes)
+undef_leaves n now bytes h =
+    leaves_either n (eqb (length (name_of bytes)) 0) (Stops _) (Goes _ (after_name bytes)) tt
+    (omega (arith, h, name_within bytes bytes (omega arith)))
 
-uses_leaves : (n : ℕ) (text : Option (List ℕ)) (rest : List ℕ) → length rest ≤ n → Leaves n (uses text rest)
-uses_leaves n None rest h = tt
-uses_leaves n (Some text) rest h = h
+use_leaves : (n : ℕ) (text : Option (List ℕ)) (rest : List ℕ) → length rest ≤ n → Leaves n (use_effect text rest)
+use_leaves n None rest h = tt
+use_leaves n (Some text) rest h = h
 
-directs_leaves : (directive : Directive) (now : Around) (name bytes : List ℕ)
-    → Leaves (length bytes) (directs directive now name bytes)
-unfolding directs
-directs_leaves Define now name bytes = defines_leaves (length bytes) (behind_line_blanks bytes) (dropped _ bytes)
-directs_leaves Undef now name bytes = undefines_leaves (length bytes) now (behind_blanks bytes) (dropped _ bytes)
-directs_leaves Include now name bytes = tt
-directs_leaves Skipped now name bytes = dropped _ bytes
-directs_leaves Use now name bytes = uses_leaves (length bytes) (now.macros name) bytes (omega arith)
+other_leaves : (directive : Directive) (now : Around) (name bytes : List ℕ)
+    → Leaves (length bytes) (other_effect directive now name bytes)
+unfolding other_effect
+other_leaves Define now name bytes = define_leaves (length bytes) (after_line_blanks bytes) (after_run_within is_line_blank bytes)
+other_leaves Undef now name bytes = undef_leaves (length bytes) now (after_blanks bytes) (after_run_within is_blank bytes)
+other_leaves Include now name bytes = tt
+other_leaves Skipped now name bytes = after_run_within is_no_newline bytes
+other_leaves Use now name bytes = use_leaves (length bytes) (now.macros name) bytes (omega arith)
 
 chosen_leaves : (branching : Option Branching) (taken_here : Bool) (place : Place) (now : Around) (name bytes : List ℕ)
-    → Leaves (length bytes) (directs_or_branches branching taken_here place now name bytes)
-chosen_leaves (Some branching) taken_here place now name bytes = branches_leaves branching place now bytes
-chosen_leaves None true place now name bytes = directs_leaves (directive_of name) now name bytes
+    → Leaves (length bytes) (chosen_effect branching taken_here place now name bytes)
+chosen_leaves (Some branching) taken_here place now name bytes = condition_leaves branching place now bytes
+chosen_leaves None true place now name bytes = other_leaves (directive_of name) now name bytes
 chosen_leaves None false place now name bytes = omega arith
 
-directed_leaves : (taken_here : Bool) (place : Place) (now : Around) (bytes : List ℕ)
-    → Leaves (length bytes) (directed taken_here place now bytes)
-unfolding directed
-directed_leaves taken_here place now bytes =
-    leaves_more (length (behind_name bytes)) (length bytes) _ (dropped _ bytes)
-    (chosen_leaves (branching_of (name_of bytes)) taken_here place now (name_of bytes) (behind_name bytes))
+directive_leaves : (taken_here : Bool) (place : Place) (now : Around) (bytes : List ℕ)
+    → Leaves (length bytes) (directive_effect taken_here place now bytes)
+unfolding directive_effect
+directive_leaves taken_here place now bytes =
+    leaves_more (length (after_name bytes)) (length bytes) _ (dropped _ bytes)
+    (chosen_leaves (branching_of (name_of bytes)) taken_here place now (name_of bytes) (after_name bytes))
 
-takes_leaves : (n : ℕ) (place : Place) (now : Around) (kind : TokenKind) (rest : List ℕ) → length rest ≤ n
-    → Leaves n (takes place now kind rest)
-unfolding takes
-takes_leaves n place now kind rest h = leaves_either n _ (Goes _ rest) (Stops _) h tt
+token_leaves : (n : ℕ) (place : Place) (now : Around) (kind : TokenKind) (rest : List ℕ) → length rest ≤ n
+    → Leaves n (token_effect place now kind rest)
+unfolding token_effect
+token_leaves n place now kind rest h = leaves_either n _ (Goes _ rest) (Stops _) h tt
 
-shorter : (text rest : List ℕ) → IsBehind text rest → length rest + 1 ≤ length text
+shorter : (text rest : List ℕ) → IsRest text rest → length rest + 1 ≤ length text
 shorter text rest b = omega (arith, ap length b.1, length-append b.0 rest, b.2)
 
 -- ---- numbers
@@ -164,10 +166,10 @@ module _ (begins : BeginsSome) (begins_takes : BeginsTakes) (passes : PassesSome
   taken_leaves place now text (Ok (lexemes.Blank, rest)) b = omega
       (arith, shorter text rest (begins_takes text lexemes.Blank rest b))
   taken_leaves place now text (Ok (lexemes.Token kind, rest)) b =
-      takes_leaves _ place now kind rest (omega (arith, shorter text rest (begins_takes text (lexemes.Token kind) rest b)))
+      token_leaves _ place now kind rest (omega (arith, shorter text rest (begins_takes text (lexemes.Token kind) rest b)))
   taken_leaves place now text (Ok (lexemes.Directive, rest)) b =
       leaves_more (length rest) (length text - 1) _
-      (omega (arith, shorter text rest (begins_takes text lexemes.Directive rest b))) (directed_leaves true place now rest)
+      (omega (arith, shorter text rest (begins_takes text lexemes.Directive rest b))) (directive_leaves true place now rest)
   taken_leaves place now text (Err fault) b = tt
 
   passed_leaves : (place : Place) (now : Around) (text : List ℕ) (seen : SeenPassing) → Passes text seen
@@ -177,7 +179,7 @@ module _ (begins : BeginsSome) (begins_takes : BeginsTakes) (passes : PassesSome
   passed_leaves place now text (Ok (passed_kinds.Directive, rest)) b =
       leaves_more (length rest) (length text - 1) _
       (omega (arith, shorter text rest (passes_takes text passed_kinds.Directive rest b)))
-      (directed_leaves false place now rest)
+      (directive_leaves false place now rest)
   passed_leaves place now text (Err fault) b = tt
 
   found : (place : Place) (now : Around) (text : List ℕ) → 0 < length text → Found place now text
@@ -211,30 +213,30 @@ module _ (begins : BeginsSome) (begins_takes : BeginsTakes) (passes : PassesSome
       → Does spot.place now text (Uses body rest) → use_fault spot now body ≡ None
       → Ends (nested spot) (with_use now body) body → ((next : Around) → Ends (moved spot (before text rest)) next rest) → Ends spot now text
   use_ends spot now text body rest some d fits (Ended next, inner) on = let e = on next
-      in (e.0, reads_uses body rest next some d fits inner e.1)
+      in (e.0, uses body rest next some d fits inner e.1)
   use_ends spot now text body rest some d fits (Stopped fault, inner)
       on = (Stopped fault, use_stops body rest fault some d fits inner refl)
 
-  behind_ends : (k : ℕ) → Inner k → (spot : Spot) (now : Around) (text : List ℕ) (effect : Effect) → 16 ≤ spot.depth + k
+  after_run_ends : (k : ℕ) → Inner k → (spot : Spot) (now : Around) (text : List ℕ) (effect : Effect) → 16 ≤ spot.depth + k
       → 0 < length text → Does spot.place now text effect
       → Leaves (length text - 1) effect
       → ((after : Spot) (next : Around) (rest : List ℕ) → after.depth ≡ spot.depth → length rest ≤ length text - 1
       → Ends after next rest) → Ends spot now text
-  behind_ends k inner spot now text (Goes next rest) deep some d h on =
+  after_run_ends k inner spot now text (Goes next rest) deep some d h on =
       let e = on (moved spot (before text rest)) next rest (moved_depth spot (before text rest)) h
       in (e.0, goes next rest some d e.1)
-  behind_ends k inner spot now text (Defines name bytes) deep some d h on =
+  after_run_ends k inner spot now text (Defines name bytes) deep some d h on =
       let s = macro_texts bytes in
       let e = on (moved spot (before text s.1)) (with_macro now name (Some s.0)) s.1 (moved_depth spot (before text s.1))
       (omega (arith, h, ap length s.2.parts, length-append s.2.front s.1)) in
-      (e.0, reads_defines name bytes s.0 s.1 some d s.2 e.1)
-  behind_ends k inner spot now text (Uses body rest) deep some d h on =
+      (e.0, defines name bytes s.0 s.1 some d s.2 e.1)
+  after_run_ends k inner spot now text (Uses body rest) deep some d h on =
       elim (use_cases spot now body) [
         | admitted fits lt ↦ use_ends spot now text body rest some d fits (inner spot (with_use now body) body deep lt)
             (λ next. on (moved spot (before text rest)) next rest (moved_depth spot (before text rest)) h)
         | refused kind why ↦ (Stopped (fault_at kind spot), use_refused body rest kind some d why refl)
       ]
-  behind_ends k inner spot now text (Stops kind) deep some d h on = (Stopped (fault_at kind spot), stops kind some d refl)
+  after_run_ends k inner spot now text (Stops kind) deep some d h on = (Stopped (fault_at kind spot), stops kind some d refl)
 
   row : (k : ℕ) → Inner k → (n : ℕ) (spot : Spot) (now : Around) (text : List ℕ) → 16 ≤ spot.depth + k → length text ≤ n
       → Ends spot now text
@@ -244,7 +246,7 @@ module _ (begins : BeginsSome) (begins_takes : BeginsTakes) (passes : PassesSome
         | inl none ↦ (Ended now, ends none refl)
         | inr some ↦
             let f = found spot.place now text some in
-            behind_ends k inner spot now text f.effect deep some f.does f.leaves
+            after_run_ends k inner spot now text f.effect deep some f.does f.leaves
             (λ after next rest same less. row k inner n after next rest (omega (arith, deep, same))
             (omega (arith, less, h, some)))
       ]

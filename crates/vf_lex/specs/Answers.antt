@@ -15,7 +15,7 @@ use Rattle.vf_lex.specs.Elements.{Does}
 use Rattle.vf_lex.specs.Places.{moved, before}
 use Rattle.vf_lex.specs.Reads.{Reads}
 
--- what the code answers to a directive or element is the effect, with what is around behind it
+-- what the code answers to a directive or element is the effect, with what is around after it
 abbrev pub seen : Around → Step → Effect
 seen now (steps.Goes rest) = Goes now rest.now
 seen now (steps.Defines name bytes) = Defines name.now bytes.now
@@ -33,7 +33,7 @@ Keeps old new (steps.Goes rest) = Unit {0}
 Keeps old new (steps.Defines name bytes) = new ≡ old
 Keeps old new (steps.Uses body rest) = new ≡ old
 
--- the kind is want of memory, or the effect is to stop with it
+-- memory ran out, or the effect is to stop with that kind
 abbrev pub StopsWith : LexKind → Effect → Type 0
 StopsWith kind effect = kind ≢ Memory → effect ≡ Stops kind
 
@@ -42,7 +42,7 @@ abbrev pub Gives : {X : Type 0} → (X → Effect) → Result X LexKind → Effe
 Gives view (Ok x) effect = effect ≡ view x
 Gives view (Err kind) effect = StopsWith kind effect
 
--- the kind is want of memory, or the first fault of the text at this place
+-- memory ran out, or that kind is the first fault of the text at this place
 abbrev pub FailsWith : LexKind → Place → Around → List ℕ → Type 0
 FailsWith kind place now text = kind ≢ Memory → Does place now text (Stops kind)
 

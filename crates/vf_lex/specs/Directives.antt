@@ -2,7 +2,9 @@
 use Rattle.std.specs.Prelude.{ℕ, Bool, true, false, not, ◌==◌, ◌&&◌, ◌||◌, if◌then◌else◌, List, [], ◌∷◌, length, Option, None, Some, codes}
 use Rattle.std.specs.Str.{bytes_eq}
 use Rattle.vf_base.specs.declared.names.Place.{Place}
-use Rattle.vf_lex.specs.Names.{begins_with, name_of, behind_name, behind_blanks, behind_line_blanks, behind_line}
+use Rattle.vf_number.specs.Runs.{begins_with}
+use Rattle.vf_lexeme.specs.Bytes.{after_line}
+use Rattle.vf_lex.specs.Names.{name_of, after_name, after_blanks, after_line_blanks}
 use Rattle.vf_lex.specs.declared.directive.Branching.{Branching}
 use Rattle.vf_lex.specs.declared.directive.Branching.TheVariants.{Ifdef, Ifndef, Elsif, Else, Endif}
 use Rattle.vf_lex.specs.declared.directive.Directive.{Directive}
@@ -53,8 +55,8 @@ abbrev pub opened : Place → Bool → Bool → Condition
 opened place outer test = record { place = place; taken = outer && test; settled = not outer || test; closed = false }
 
 -- at its next branch, with the result of the branch's test
-abbrev pub turned : Condition → Bool → Bool → Condition
-turned condition test last = record {
+abbrev pub next_branch : Condition → Bool → Bool → Condition
+next_branch condition test last = record {
   place = condition.place;
   taken = not condition.settled && test;
   settled = condition.settled || test;
@@ -66,72 +68,72 @@ abbrev pub tested : Bool → Bool → Bool
 tested wanted defined = if wanted then defined else not defined
 
 -- `ifdef` or `ifndef`
-abbrev pub opens : Bool → Place → Around → List ℕ → Effect
-opens wanted place now bytes =
+abbrev pub ifdef_effect : Bool → Place → Around → List ℕ → Effect
+ifdef_effect wanted place now bytes =
     let test = tested wanted (is_defined now (name_of bytes)) in
     if length (name_of bytes) == 0 then Stops BadCondition
-    else Goes (with_conditions now (opened place (is_taken now.conditions) test ∷ now.conditions)) (behind_name bytes)
+    else Goes (with_conditions now (opened place (is_taken now.conditions) test ∷ now.conditions)) (after_name bytes)
 
 -- `elsif`
-abbrev pub turns : Around → List Condition → List ℕ → Effect
-turns now [] bytes = Stops BadCondition
-turns now (condition ∷ outer) bytes =
+abbrev pub elsif_effect : Around → List Condition → List ℕ → Effect
+elsif_effect now [] bytes = Stops BadCondition
+elsif_effect now (condition ∷ outer) bytes =
     if condition.closed || length (name_of bytes) == 0 then Stops BadCondition
-    else Goes (with_conditions now (turned condition (is_defined now (name_of bytes)) false ∷ outer)) (behind_name bytes)
+    else Goes (with_conditions now (next_branch condition (is_defined now (name_of bytes)) false ∷ outer)) (after_name bytes)
 
 -- `else`
-abbrev pub turns_last : Around → List Condition → List ℕ → Effect
-turns_last now [] rest = Stops BadCondition
-turns_last now (condition ∷ outer) rest =
-    if condition.closed then Stops BadCondition else Goes (with_conditions now (turned condition true true ∷ outer)) rest
+abbrev pub else_effect : Around → List Condition → List ℕ → Effect
+else_effect now [] rest = Stops BadCondition
+else_effect now (condition ∷ outer) rest =
+    if condition.closed then Stops BadCondition else Goes (with_conditions now (next_branch condition true true ∷ outer)) rest
 
 -- `endif`
-abbrev pub closes : Around → List Condition → List ℕ → Effect
-closes now [] rest = Stops BadCondition
-closes now (condition ∷ outer) rest = Goes (with_conditions now outer) rest
+abbrev pub endif_effect : Around → List Condition → List ℕ → Effect
+endif_effect now [] rest = Stops BadCondition
+endif_effect now (condition ∷ outer) rest = Goes (with_conditions now outer) rest
 
--- the effect of a condition's directive; the bytes are those behind it
-unfoldable pub branches : Branching → Place → Around → List ℕ → Effect
-branches Ifdef place now bytes = opens true place now (behind_blanks bytes)
-branches Ifndef place now bytes = opens false place now (behind_blanks bytes)
-branches Elsif place now bytes = turns now now.conditions (behind_blanks bytes)
-branches Else place now bytes = turns_last now now.conditions bytes
-branches Endif place now bytes = closes now now.conditions bytes
+-- the effect of a condition's directive; the bytes are those after it
+unfoldable pub condition_effect : Branching → Place → Around → List ℕ → Effect
+condition_effect Ifdef place now bytes = ifdef_effect true place now (after_blanks bytes)
+condition_effect Ifndef place now bytes = ifdef_effect false place now (after_blanks bytes)
+condition_effect Elsif place now bytes = elsif_effect now now.conditions (after_blanks bytes)
+condition_effect Else place now bytes = else_effect now now.conditions bytes
+condition_effect Endif place now bytes = endif_effect now now.conditions bytes
 
 -- ---- the other directives
 
 -- `define`; a name directly followed by `(` would have arguments
-abbrev pub defines : List ℕ → Effect
-defines bytes =
+abbrev pub define_effect : List ℕ → Effect
+define_effect bytes =
     if length (name_of bytes) == 0 then Stops UnknownDirective
-    else if begins_with 40 (behind_name bytes) then Stops LeftOut
-    else Defines (name_of bytes) (behind_name bytes)
+    else if begins_with 40 (after_name bytes) then Stops LeftOut
+    else Defines (name_of bytes) (after_name bytes)
 
 -- `undef`
-abbrev pub undefines : Around → List ℕ → Effect
-undefines now bytes =
+abbrev pub undef_effect : Around → List ℕ → Effect
+undef_effect now bytes =
     if length (name_of bytes) == 0 then Stops UnknownDirective
-    else Goes (with_macro now (name_of bytes) None) (behind_name bytes)
+    else Goes (with_macro now (name_of bytes) None) (after_name bytes)
 
 -- a use of the macro of this text
-abbrev pub uses : Option (List ℕ) → List ℕ → Effect
-uses None rest = Stops UnknownDirective
-uses (Some text) rest = Uses text rest
+abbrev pub use_effect : Option (List ℕ) → List ℕ → Effect
+use_effect None rest = Stops UnknownDirective
+use_effect (Some text) rest = Uses text rest
 
--- the effect of a directive by its name; the bytes are those behind the name
-unfoldable pub directs : Directive → Around → List ℕ → List ℕ → Effect
-directs Define now name bytes = defines (behind_line_blanks bytes)
-directs Undef now name bytes = undefines now (behind_blanks bytes)
-directs Include now name bytes = Stops LeftOut
-directs Skipped now name bytes = Goes now (behind_line bytes)
-directs Use now name bytes = uses (now.macros name) bytes
+-- the effect of a directive by its name; the bytes are those after the name
+unfoldable pub other_effect : Directive → Around → List ℕ → List ℕ → Effect
+other_effect Define now name bytes = define_effect (after_line_blanks bytes)
+other_effect Undef now name bytes = undef_effect now (after_blanks bytes)
+other_effect Include now name bytes = Stops LeftOut
+other_effect Skipped now name bytes = Goes now (after_line bytes)
+other_effect Use now name bytes = use_effect (now.macros name) bytes
 
-abbrev pub directs_or_branches : Option Branching → Bool → Place → Around → List ℕ → List ℕ → Effect
-directs_or_branches (Some branching) taken place now name bytes = branches branching place now bytes
-directs_or_branches None true place now name bytes = directs (directive_of name) now name bytes
-directs_or_branches None false place now name bytes = Goes now bytes
+abbrev pub chosen_effect : Option Branching → Bool → Place → Around → List ℕ → List ℕ → Effect
+chosen_effect (Some branching) taken place now name bytes = condition_effect branching place now bytes
+chosen_effect None true place now name bytes = other_effect (directive_of name) now name bytes
+chosen_effect None false place now name bytes = Goes now bytes
 
--- the effect of what stands behind a '`': where the text is not taken, only conditions count
-unfoldable pub directed : Bool → Place → Around → List ℕ → Effect
-directed taken place now bytes =
-    directs_or_branches (branching_of (name_of bytes)) taken place now (name_of bytes) (behind_name bytes)
+-- the effect of what stands after a '`': where the text is not taken, only conditions count
+unfoldable pub directive_effect : Bool → Place → Around → List ℕ → Effect
+directive_effect taken place now bytes =
+    chosen_effect (branching_of (name_of bytes)) taken place now (name_of bytes) (after_name bytes)

@@ -15,7 +15,7 @@ use Rattle.vf_lex.specs.declared.fault.LexKind.{LexKind}
 use Rattle.vf_lex.specs.declared.fault.LexKind.TheVariants.{BadCharacter, OpenComment, OpenString, BadNumber, TooWide, TooMany, Memory}
 use Rattle.vf_lex.specs.declared.token.Token.{Token}
 use Rattle.vf_lex.specs.Around.{Around, is_taken}
-use Rattle.vf_lex.specs.Directives.{Effect, Goes, Stops, directed}
+use Rattle.vf_lex.specs.Directives.{Effect, Goes, Stops, directive_effect}
 
 abbrev pub kind_of : LexemeFault → LexKind
 kind_of faults.BadCharacter = BadCharacter
@@ -30,22 +30,22 @@ open_kind opens.Comment = OpenComment
 open_kind opens.String = OpenString
 
 -- one more token, of at most 2^20
-unfoldable pub takes : Place → Around → TokenKind → List ℕ → Effect
-takes place now kind rest =
+unfoldable pub token_effect : Place → Around → TokenKind → List ℕ → Effect
+token_effect place now kind rest =
     let token : Token = record { kind = kind; place = place } in
     if nat_lt (length now.tokens) (2 ^ 20) then Goes (record now { tokens = now.tokens ++ token ∷ [] }) rest else Stops TooMany
 
 -- the effect of what begins a text that is taken
 abbrev pub taken_effect : Place → Around → Result (Lexeme × List ℕ) LexemeFault → Effect
 taken_effect place now (Ok (lexemes.Blank, rest)) = Goes now rest
-taken_effect place now (Ok (lexemes.Token kind, rest)) = takes place now kind rest
-taken_effect place now (Ok (lexemes.Directive, rest)) = directed true place now rest
+taken_effect place now (Ok (lexemes.Token kind, rest)) = token_effect place now kind rest
+taken_effect place now (Ok (lexemes.Directive, rest)) = directive_effect true place now rest
 taken_effect place now (Err fault) = Stops (kind_of fault)
 
 -- the effect of what begins a text that is not taken
 abbrev pub passed_effect : Place → Around → Result (Passed × List ℕ) OpenFault → Effect
 passed_effect place now (Ok (passes.Text, rest)) = Goes now rest
-passed_effect place now (Ok (passes.Directive, rest)) = directed false place now rest
+passed_effect place now (Ok (passes.Directive, rest)) = directive_effect false place now rest
 passed_effect place now (Err fault) = Stops (open_kind fault)
 
 -- the effect of the element at the front of a text

@@ -3,18 +3,18 @@ use Rattle.std.specs.Prelude.{ℕ, ◌+◌, ◌-◌, ◌==◌, if◌then◌else�
 use Rattle.vf_base.specs.declared.names.Place.{Place}
 use Rattle.vf_lex.specs.declared.spot.Spot.{Spot}
 
--- the place behind a byte: only a newline ends a line, and a column counts bytes
-abbrev pub place_behind : Place → ℕ → Place
-place_behind place byte =
+-- the place after a byte: only a newline ends a line, and a column counts bytes
+abbrev pub place_after : Place → ℕ → Place
+place_after place byte =
     if byte == 10 then record { line = place.line + 1; column = 1 }
     else record { line = place.line; column = place.column + 1 }
 
--- the place behind bytes
+-- the place after bytes
 unfoldable pub moved_place : Place → List ℕ → Place
 moved_place place [] = place
-moved_place place (byte ∷ more) = moved_place (place_behind place byte) more
+moved_place place (byte ∷ more) = moved_place (place_after place byte) more
 
--- Behind bytes of the design's own text the place has moved. In the text of a macro it is that of the use, and stands still.
+-- After bytes of the design's own text the place has moved. In the text of a macro it is that of the use, and stands still.
 unfoldable pub moved : Spot → List ℕ → Spot
 moved spot bytes = if spot.depth == 0 then record { place = moved_place spot.place bytes; depth = 0 } else spot
 

@@ -3,15 +3,16 @@
 ghost use Rattle.std.specs.Prelude.{◌≡◌, ℕ, List, ◌≤◌, ◌==◌, length, not, if◌then◌else◌, IfOk, option_map};
 ghost use Rattle.std.specs.Str.{bytes_eq};
 ghost use Rattle.vf_lex.specs.Answers.{Gives, seen, left, Keeps};
-ghost use Rattle.vf_lex.specs.Directives.{Goes, Defines, Uses, branching_of, directive_of, is_skipped, opened, turned, tested, opens, turns, turns_last, closes, branches, defines, undefines, uses, directs, directed};
+ghost use Rattle.vf_lex.specs.Directives.{Goes, Defines, Uses, branching_of, directive_of, is_skipped, opened, next_branch, tested, ifdef_effect, elsif_effect, else_effect, endif_effect, condition_effect, define_effect, undef_effect, use_effect, other_effect, directive_effect};
 ghost use Rattle.vf_lex.specs.Inner.{around};
 
 use crate::LexKind;
-use crate::names::{behind_blanks, behind_line_blanks, split_name};
+use crate::names::{after_blanks, after_line_blanks, split_name};
 use crate::reader::{Condition, Reader};
 use std::alloc::Global;
 use vf_base::Place;
-use vf_macro::{begins_with, behind_line};
+use vf_lexeme::after_line;
+use vf_number::begins_with;
 
 /// The directives of conditions.
 #[derive(Clone, Copy, Debug, PartialEq, Eq)]
@@ -38,7 +39,7 @@ pub(crate) enum Directive {
 /// What an element at the front of a text leads to.
 #[derive(Debug, Drop)]
 pub(crate) enum Step<'a> {
-    /// The rest is read on.
+    /// Reading goes on with the rest.
     Goes(&'a [u8]),
     /// The name is defined by the macro text that the bytes begin with.
     Defines(&'a [u8], &'a [u8]),
@@ -120,9 +121,9 @@ fn opened(place: Place, outer: bool, test: bool) -> Condition
     }
 }
 
-/// A condition at its next branch, which is its last or not.
-fn turned(condition: Condition, test: bool, last: bool) -> Condition
-    ensures { result ≡ turned condition test last }
+/// A condition at its next branch, which is or is not its `else`.
+fn next_branch(condition: Condition, test: bool, last: bool) -> Condition
+    ensures { result ≡ next_branch condition test last }
 {
     Condition {
         place: condition.place,
@@ -139,15 +140,15 @@ fn tested(wanted: bool, defined: bool) -> bool
     if wanted { defined } else { !defined }
 }
 
-/// An `ifdef`, or an `ifndef` where no definition is wanted.
-fn opens<'a>(
+/// The effect of an `ifdef`, or of an `ifndef`, which wants the name not to be defined; the bytes are those from the name on.
+fn ifdef_effect<'a>(
     reader: &mut Reader,
     wanted: bool,
     place: Place,
     bytes: &'a [u8],
 ) -> Result<&'a [u8], LexKind>
-    ensures effect { Gives (λ rest. Goes (around reader.new) rest.now) result (opens wanted place (around reader.old) bytes.now) }
-    ensures behind { IfOk result (λ rest. length rest.now ≤ length bytes.now) }
+    ensures effect { Gives (λ rest. Goes (around reader.new) rest.now) result (ifdef_effect wanted place (around reader.old) bytes.now) }
+    ensures within { IfOk result (λ rest. length rest.now ≤ length bytes.now) }
 {
     let (name, rest) = split_name(bytes);
     if name.is_empty() {
@@ -158,11 +159,11 @@ fn opens<'a>(
     Ok(rest)
 }
 
-/// An `elsif`.
-fn turns<'a>(reader: &mut Reader, bytes: &'a [u8]) -> Result<&'a [u8], LexKind>
+/// The effect of an `elsif`; the bytes are those from the name on.
+fn elsif_effect<'a>(reader: &mut Reader, bytes: &'a [u8]) -> Result<&'a [u8], LexKind>
     ensures effect { Gives (λ rest. Goes (around reader.new) rest.now) result
-        (turns (around reader.old) (around reader.old).conditions bytes.now) }
-    ensures behind { IfOk result (λ rest. length rest.now ≤ length bytes.now) }
+        (elsif_effect (around reader.old) (around reader.old).conditions bytes.now) }
+    ensures within { IfOk result (λ rest. length rest.now ≤ length bytes.now) }
 {
     let Some(condition) = reader.close() else {
         return Err(LexKind::BadCondition);
@@ -171,15 +172,15 @@ fn turns<'a>(reader: &mut Reader, bytes: &'a [u8]) -> Result<&'a [u8], LexKind>
     if condition.closed || name.is_empty() {
         return Err(LexKind::BadCondition);
     }
-    reader.open(turned(condition, reader.is_defined(name), false))?;
+    reader.open(next_branch(condition, reader.is_defined(name), false))?;
     Ok(rest)
 }
 
-/// An `else`.
-fn turns_last<'a>(reader: &mut Reader, rest: &'a [u8]) -> Result<&'a [u8], LexKind>
+/// The effect of an `else`.
+fn else_effect<'a>(reader: &mut Reader, rest: &'a [u8]) -> Result<&'a [u8], LexKind>
     ensures effect { Gives (λ rest. Goes (around reader.new) rest.now) result
-        (turns_last (around reader.old) (around reader.old).conditions rest.now) }
-    ensures behind { IfOk result (λ r. length r.now ≤ length rest.now) }
+        (else_effect (around reader.old) (around reader.old).conditions rest.now) }
+    ensures within { IfOk result (λ r. length r.now ≤ length rest.now) }
 {
     let Some(condition) = reader.close() else {
         return Err(LexKind::BadCondition);
@@ -187,15 +188,15 @@ fn turns_last<'a>(reader: &mut Reader, rest: &'a [u8]) -> Result<&'a [u8], LexKi
     if condition.closed {
         return Err(LexKind::BadCondition);
     }
-    reader.open(turned(condition, true, true))?;
+    reader.open(next_branch(condition, true, true))?;
     Ok(rest)
 }
 
-/// An `endif`.
-fn closes<'a>(reader: &mut Reader, rest: &'a [u8]) -> Result<&'a [u8], LexKind>
+/// The effect of an `endif`.
+fn endif_effect<'a>(reader: &mut Reader, rest: &'a [u8]) -> Result<&'a [u8], LexKind>
     ensures effect { Gives (λ rest. Goes (around reader.new) rest.now) result
-        (closes (around reader.old) (around reader.old).conditions rest.now) }
-    ensures behind { IfOk result (λ r. length r.now ≤ length rest.now) }
+        (endif_effect (around reader.old) (around reader.old).conditions rest.now) }
+    ensures within { IfOk result (λ r. length r.now ≤ length rest.now) }
 {
     match reader.close() {
         Some(_) => Ok(rest),
@@ -203,31 +204,31 @@ fn closes<'a>(reader: &mut Reader, rest: &'a [u8]) -> Result<&'a [u8], LexKind>
     }
 }
 
-/// A directive of a condition; the bytes are those behind it.
-#[tactic(auto, unfolding(crate::specs::Directives::branches))]
-fn branches<'a>(
+/// The effect of a directive of a condition; the bytes are those after its name.
+#[tactic(auto, unfolding(crate::specs::Directives::condition_effect))]
+fn condition_effect<'a>(
     reader: &mut Reader,
     branching: Branching,
     place: Place,
     bytes: &'a [u8],
 ) -> Result<&'a [u8], LexKind>
     ensures effect { Gives (λ rest. Goes (around reader.new) rest.now) result
-        (branches branching place (around reader.old) bytes.now) }
-    ensures behind { IfOk result (λ rest. length rest.now ≤ length bytes.now) }
+        (condition_effect branching place (around reader.old) bytes.now) }
+    ensures within { IfOk result (λ rest. length rest.now ≤ length bytes.now) }
 {
     match branching {
-        Branching::Ifdef => opens(reader, true, place, behind_blanks(bytes)),
-        Branching::Ifndef => opens(reader, false, place, behind_blanks(bytes)),
-        Branching::Elsif => turns(reader, behind_blanks(bytes)),
-        Branching::Else => turns_last(reader, bytes),
-        Branching::Endif => closes(reader, bytes),
+        Branching::Ifdef => ifdef_effect(reader, true, place, after_blanks(bytes)),
+        Branching::Ifndef => ifdef_effect(reader, false, place, after_blanks(bytes)),
+        Branching::Elsif => elsif_effect(reader, after_blanks(bytes)),
+        Branching::Else => else_effect(reader, bytes),
+        Branching::Endif => endif_effect(reader, bytes),
     }
 }
 
-/// A `define`.
-fn defines<'a>(bytes: &'a [u8]) -> Result<(&'a [u8], &'a [u8]), LexKind>
-    ensures effect { Gives (λ x. Defines x.0.now x.1.now) result (defines bytes.now) }
-    ensures behind { IfOk result (λ x. length x.1.now ≤ length bytes.now) }
+/// The effect of a `define`; the bytes are those from the name on.
+fn define_effect<'a>(bytes: &'a [u8]) -> Result<(&'a [u8], &'a [u8]), LexKind>
+    ensures effect { Gives (λ x. Defines x.0.now x.1.now) result (define_effect bytes.now) }
+    ensures within { IfOk result (λ x. length x.1.now ≤ length bytes.now) }
 {
     let (name, rest) = split_name(bytes);
     if name.is_empty() {
@@ -239,10 +240,14 @@ fn defines<'a>(bytes: &'a [u8]) -> Result<(&'a [u8], &'a [u8]), LexKind>
     Ok((name, rest))
 }
 
-/// An `undef`.
-fn undefines<'a>(alloc: Global, reader: &mut Reader, bytes: &'a [u8]) -> Result<&'a [u8], LexKind>
-    ensures effect { Gives (λ rest. Goes (around reader.new) rest.now) result (undefines (around reader.old) bytes.now) }
-    ensures behind { IfOk result (λ rest. length rest.now ≤ length bytes.now) }
+/// The effect of an `undef`; the bytes are those from the name on.
+fn undef_effect<'a>(
+    alloc: Global,
+    reader: &mut Reader,
+    bytes: &'a [u8],
+) -> Result<&'a [u8], LexKind>
+    ensures effect { Gives (λ rest. Goes (around reader.new) rest.now) result (undef_effect (around reader.old) bytes.now) }
+    ensures within { IfOk result (λ rest. length rest.now ≤ length bytes.now) }
 {
     let (name, rest) = split_name(bytes);
     if name.is_empty() {
@@ -254,7 +259,7 @@ fn undefines<'a>(alloc: Global, reader: &mut Reader, bytes: &'a [u8]) -> Result<
 
 /// The text of the macro of that name.
 fn used(alloc: Global, reader: &Reader, name: &[u8]) -> Result<Vec<u8>, LexKind>
-    ensures { (rest : List ℕ) → Gives (λ text. Uses text.items rest) result (uses ((around reader.now).macros name.now) rest) }
+    ensures { (rest : List ℕ) → Gives (λ text. Uses text.items rest) result (use_effect ((around reader.now).macros name.now) rest) }
 {
     match reader.find(name) {
         Some(text) => Ok(Vec::from_slice(alloc, text)?),
@@ -262,50 +267,50 @@ fn used(alloc: Global, reader: &Reader, name: &[u8]) -> Result<Vec<u8>, LexKind>
     }
 }
 
-/// A directive that is none of a condition's, by its name; the bytes are those behind it.
-#[tactic(auto, unfolding(crate::specs::Directives::directs))]
-fn directs<'a>(
+/// The effect of a directive that is not one of a condition, by its name; the bytes are those after it.
+#[tactic(auto, unfolding(crate::specs::Directives::other_effect))]
+fn other_effect<'a>(
     alloc: Global,
     reader: &mut Reader,
     name: &'a [u8],
     bytes: &'a [u8],
 ) -> Result<Step<'a>, LexKind>
     ensures effect { Gives (seen (around reader.new)) result
-        (directs (directive_of name.now) (around reader.old) name.now bytes.now) }
+        (other_effect (directive_of name.now) (around reader.old) name.now bytes.now) }
     ensures kept { IfOk result (Keeps (around reader.old) (around reader.new)) }
-    ensures behind { IfOk result (λ step. length (left step) ≤ length bytes.now) }
+    ensures within { IfOk result (λ step. length (left step) ≤ length bytes.now) }
 {
     match directive_of(name) {
         Directive::Define => {
-            let (name, text) = defines(behind_line_blanks(bytes))?;
+            let (name, text) = define_effect(after_line_blanks(bytes))?;
             Ok(Step::Defines(name, text))
         }
-        Directive::Undef => Ok(Step::Goes(undefines(alloc, reader, behind_blanks(bytes))?)),
+        Directive::Undef => Ok(Step::Goes(undef_effect(alloc, reader, after_blanks(bytes))?)),
         Directive::Include => Err(LexKind::LeftOut),
-        Directive::Skipped => Ok(Step::Goes(behind_line(bytes))),
+        Directive::Skipped => Ok(Step::Goes(after_line(bytes))),
         Directive::Use => Ok(Step::Uses(used(alloc, reader, name)?, bytes)),
     }
 }
 
-/// What stands behind a '`'. Where the text is not taken, only conditions count.
-#[tactic(auto, unfolding(crate::specs::Directives::directed))]
-pub(crate) fn directed<'a>(
+/// The effect of what stands after a '`'. Where the text is not taken, only conditions count.
+#[tactic(auto, unfolding(crate::specs::Directives::directive_effect))]
+pub(crate) fn directive_effect<'a>(
     alloc: Global,
     reader: &mut Reader,
     taken: bool,
     place: Place,
     bytes: &'a [u8],
 ) -> Result<Step<'a>, LexKind>
-    ensures effect { Gives (seen (around reader.new)) result (directed taken place (around reader.old) bytes.now) }
+    ensures effect { Gives (seen (around reader.new)) result (directive_effect taken place (around reader.old) bytes.now) }
     ensures kept { IfOk result (Keeps (around reader.old) (around reader.new)) }
-    ensures behind { IfOk result (λ step. length (left step) ≤ length bytes.now) }
+    ensures within { IfOk result (λ step. length (left step) ≤ length bytes.now) }
 {
     let (name, rest) = split_name(bytes);
     if let Some(branching) = branching_of(name) {
-        return Ok(Step::Goes(branches(reader, branching, place, rest)?));
+        return Ok(Step::Goes(condition_effect(reader, branching, place, rest)?));
     }
     if taken {
-        return directs(alloc, reader, name, rest);
+        return other_effect(alloc, reader, name, rest);
     }
     Ok(Step::Goes(rest))
 }

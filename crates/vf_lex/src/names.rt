@@ -1,53 +1,52 @@
-//! Names behind directives, and the bytes before them.
+//! Names after directives, and the blanks before them.
 
-ghost use Rattle.std.specs.Prelude.{◌≡◌, ◌≤◌, length, take_while};
-ghost use Rattle.vf_lexeme.specs.Bytes.{is_blank};
-ghost use Rattle.vf_lex.specs.Names.{name_of, behind_name, is_line_blank, behind_blanks, behind_line_blanks};
+ghost use Rattle.std.specs.Prelude.{◌≡◌, ◌≤◌, length};
+ghost use Rattle.vf_lex.specs.Names.{name_of, after_name, after_blanks, after_line_blanks, in_class};
 
-use vf_lexeme::{is_blank, name};
+use vf_lexeme::name;
+use vf_number::{ByteClass, is_blank};
 
-/// The plain name at the front, empty where none begins the bytes, and the bytes behind it.
+/// The plain name at the front, empty where none begins the bytes, and the bytes after it.
 pub(crate) fn split_name<'a>(bytes: &'a [u8]) -> (&'a [u8], &'a [u8])
     ensures name { result.0.now ≡ name_of bytes.now }
-    ensures rest { result.1.now ≡ behind_name bytes.now }
-    ensures behind { length result.1.now ≤ length bytes.now }
+    ensures rest { result.1.now ≡ after_name bytes.now }
+    ensures within { length result.1.now ≤ length bytes.now }
 {
     name(bytes)
 }
 
-fn is_line_blank(byte: u8) -> bool
-    ensures { result ≡ is_line_blank byte }
-{
-    is_blank(byte) && byte != b'\n'
+/// A class of bytes that may stand before a name.
+#[derive(Clone, Copy, Debug, PartialEq, Eq)]
+pub(crate) enum Class {
+    /// Blanks (clause 3.2).
+    Blank,
+    /// Blanks that do not end the line.
+    LineBlank,
 }
 
-fn blanks(bytes: &[u8]) -> usize
-    ensures { result ≡ length (take_while is_blank bytes.now) }
-{
-    bytes.iter().take_while(|byte| is_blank(**byte)).count()
+impl ByteClass for Class {
+    ghost holds = { in_class };
+
+    fn contains(self, byte: u8) -> bool {
+        match self {
+            Class::Blank => is_blank(byte),
+            Class::LineBlank => is_blank(byte) && byte != b'\n',
+        }
+    }
 }
 
-fn line_blanks(bytes: &[u8]) -> usize
-    ensures { result ≡ length (take_while is_line_blank bytes.now) }
+/// The bytes after the blanks at the front.
+pub(crate) fn after_blanks(bytes: &[u8]) -> &[u8]
+    ensures rest { result.now ≡ after_blanks bytes.now }
+    ensures within { length result.now ≤ length bytes.now }
 {
-    bytes
-        .iter()
-        .take_while(|byte| is_line_blank(**byte))
-        .count()
+    Class::Blank.skip(bytes)
 }
 
-/// The bytes behind the blanks at the front.
-pub(crate) fn behind_blanks(bytes: &[u8]) -> &[u8]
-    ensures rest { result.now ≡ behind_blanks bytes.now }
-    ensures behind { length result.now ≤ length bytes.now }
+/// The bytes after the blanks at the front that stand on this line.
+pub(crate) fn after_line_blanks(bytes: &[u8]) -> &[u8]
+    ensures rest { result.now ≡ after_line_blanks bytes.now }
+    ensures within { length result.now ≤ length bytes.now }
 {
-    &bytes[blanks(bytes)..]
-}
-
-/// The bytes behind the blanks at the front that stand on this line.
-pub(crate) fn behind_line_blanks(bytes: &[u8]) -> &[u8]
-    ensures rest { result.now ≡ behind_line_blanks bytes.now }
-    ensures behind { length result.now ≤ length bytes.now }
-{
-    &bytes[line_blanks(bytes)..]
+    Class::LineBlank.skip(bytes)
 }

@@ -5,10 +5,10 @@ ghost use Rattle.vf_macro.specs.MacroText.{IsMacroText};
 ghost use Rattle.vf_lex.specs.Answers.{Gives, seen, left, Keeps, DoesSo, ReadsOne, ReadsAll, HasRoom};
 ghost use Rattle.vf_lex.specs.Around.{is_taken, with_macro};
 ghost use Rattle.vf_lex.specs.Reads.{fault_at, use_fault};
-ghost use Rattle.vf_lex.specs.Elements.{kind_of, open_kind, takes, Does};
+ghost use Rattle.vf_lex.specs.Elements.{kind_of, open_kind, token_effect, Does};
 ghost use Rattle.vf_lex.specs.Inner.{around};
 
-use crate::directive::{Step, directed};
+use crate::directive::{Step, directive_effect};
 use crate::reader::Reader;
 use crate::spot::Spot;
 use crate::{LexFault, LexKind, Token};
@@ -49,16 +49,16 @@ fn open_kind(fault: OpenFault) -> LexKind
 }
 
 /// Appends a token, unless there are as many as a text may have.
-#[tactic(auto, unfolding(crate::specs::Elements::takes))]
-fn takes<'a>(
+#[tactic(auto, unfolding(crate::specs::Elements::token_effect))]
+fn token_effect<'a>(
     reader: &mut Reader,
     place: Place,
     kind: TokenKind,
     rest: &'a [u8],
 ) -> Result<Step<'a>, LexKind>
-    ensures effect { Gives (seen (around reader.new)) result (takes place (around reader.old) kind rest.now) }
+    ensures effect { Gives (seen (around reader.new)) result (token_effect place (around reader.old) kind rest.now) }
     ensures kept { IfOk result (Keeps (around reader.old) (around reader.new)) }
-    ensures behind { IfOk result (λ step. left step ≡ rest.now) }
+    ensures rest { IfOk result (λ step. left step ≡ rest.now) }
 {
     if reader.len() >= MOST_TOKENS {
         return Err(LexKind::TooMany);
@@ -68,7 +68,7 @@ fn takes<'a>(
 }
 
 /// The element at the front of a text that is taken.
-fn taken<'a>(
+fn taken_element<'a>(
     alloc: Global,
     reader: &mut Reader,
     place: Place,
@@ -78,20 +78,20 @@ fn taken<'a>(
     requires taken { is_taken (around reader.old).conditions ≡ true }
     ensures effect { DoesSo result (around reader.new) place (around reader.old) text.now }
     ensures kept { IfOk result (Keeps (around reader.old) (around reader.new)) }
-    ensures behind { IfOk result (λ step. length (left step) < length text.now) }
+    ensures shorter { IfOk result (λ step. length (left step) < length text.now) }
 {
     match lexeme(alloc, text) {
         Ok((found, rest)) => match found {
             Lexeme::Blank => Ok(Step::Goes(rest)),
-            Lexeme::Token(kind) => takes(reader, place, kind, rest),
-            Lexeme::Directive => directed(alloc, reader, true, place, rest),
+            Lexeme::Token(kind) => token_effect(reader, place, kind, rest),
+            Lexeme::Directive => directive_effect(alloc, reader, true, place, rest),
         },
         Err(fault) => Err(kind_of(fault)),
     }
 }
 
 /// The element at the front of a text that is not taken.
-fn untaken<'a>(
+fn untaken_element<'a>(
     alloc: Global,
     reader: &mut Reader,
     place: Place,
@@ -101,11 +101,11 @@ fn untaken<'a>(
     requires passed { is_taken (around reader.old).conditions ≡ false }
     ensures effect { DoesSo result (around reader.new) place (around reader.old) text.now }
     ensures kept { IfOk result (Keeps (around reader.old) (around reader.new)) }
-    ensures behind { IfOk result (λ step. length (left step) < length text.now) }
+    ensures shorter { IfOk result (λ step. length (left step) < length text.now) }
 {
     match passed(text) {
         Ok((Passed::Text, rest)) => Ok(Step::Goes(rest)),
-        Ok((Passed::Directive, rest)) => directed(alloc, reader, false, place, rest),
+        Ok((Passed::Directive, rest)) => directive_effect(alloc, reader, false, place, rest),
         Err(fault) => Err(open_kind(fault)),
     }
 }
@@ -120,12 +120,12 @@ fn element<'a>(
     requires { 0 < length text.now }
     ensures effect { DoesSo result (around reader.new) place (around reader.old) text.now }
     ensures kept { IfOk result (Keeps (around reader.old) (around reader.new)) }
-    ensures behind { IfOk result (λ step. length (left step) < length text.now) }
+    ensures shorter { IfOk result (λ step. length (left step) < length text.now) }
 {
     if reader.is_taken() {
-        taken(alloc, reader, place, text)
+        taken_element(alloc, reader, place, text)
     } else {
-        untaken(alloc, reader, place, text)
+        untaken_element(alloc, reader, place, text)
     }
 }
 
@@ -138,7 +138,7 @@ fn define<'a>(
 ) -> Result<&'a [u8], Memory>
     ensures defined { IfOk result (λ rest. (body : List ℕ) × IsMacroText bytes.now body rest.now
         × (around reader.new ≡ with_macro (around reader.old) name.now (Some body))) }
-    ensures behind { IfOk result (λ rest. length rest.now ≤ length bytes.now) }
+    ensures within { IfOk result (λ rest. length rest.now ≤ length bytes.now) }
 {
     let (text, rest) = macro_text(alloc, bytes)?;
     reader.define(alloc, name, Some(text))?;
@@ -181,7 +181,7 @@ fn step<'a>(
     requires some { 0 < length text.now }
     requires depth { spot.depth ≤ 16 }
     ensures read { ReadsOne (λ rest. rest.now) result (around reader.new) spot (around reader.old) text.now }
-    ensures behind { IfOk result (λ rest. length rest.now < length text.now) }
+    ensures shorter { IfOk result (λ rest. length rest.now < length text.now) }
 {
     match element(alloc, reader, spot.place, text) {
         Ok(Step::Goes(rest)) => Ok(rest),
@@ -216,9 +216,9 @@ pub(crate) fn read(
     let mut spot = spot;
     let mut rest = text;
     while !rest.is_empty() {
-        let behind = step(alloc, reader, spot, rest)?;
-        spot = spot.moved(&rest[..rest.len() - behind.len()]);
-        rest = behind;
+        let after = step(alloc, reader, spot, rest)?;
+        spot = spot.moved(&rest[..rest.len() - after.len()]);
+        rest = after;
     }
     Ok(())
 }

@@ -1,7 +1,7 @@
 //! Where a text is read.
 
 ghost use Rattle.std.specs.Prelude.{◌≡◌, ◌+◌, ◌<◌, ◌^◌, length};
-ghost use Rattle.vf_lex.specs.Places.{place_behind, moved_place, moved, nested};
+ghost use Rattle.vf_lex.specs.Places.{place_after, moved_place, moved, nested};
 
 use vf_base::Place;
 
@@ -13,9 +13,9 @@ pub(crate) struct Spot {
     pub(crate) depth: u32,
 }
 
-fn place_behind(place: Place, byte: u8) -> Place
+fn place_after(place: Place, byte: u8) -> Place
     requires { (place.line + 1 < 2 ^ 32) × (place.column + 1 < 2 ^ 32) }
-    ensures { result ≡ place_behind place byte }
+    ensures { result ≡ place_after place byte }
 {
     if byte == b'\n' {
         return Place {
@@ -35,13 +35,13 @@ fn moved_place(place: Place, bytes: &[u8]) -> Place
 {
     let mut place = place;
     for byte in bytes {
-        place = place_behind(place, *byte);
+        place = place_after(place, *byte);
     }
     place
 }
 
 impl Spot {
-    /// Where the text is read behind bytes.
+    /// Where the text is read after bytes.
     #[tactic(auto, unfolding(crate::specs::Places::moved))]
     pub(crate) fn moved(self, bytes: &[u8]) -> Spot
         requires { self.depth ≡ 0 →

@@ -12,8 +12,8 @@ use std::alloc::Global;
 use vf_base::Place;
 
 /// The tokens of a design's text of fewer than 2^32 - 1 bytes, with its directives carried out (IEEE Std 1364-2005, clauses 3
-/// and 19). Every refusal but want of memory is the text's first fault, of several at one place the one with the smallest
-/// number.
+/// and 19). Every refusal but out of memory is the text's first fault, of several at one place the one with the smallest
+/// number. Time is linear in the text and the texts of macros that it reads, of which there are at most 2^26 bytes.
 pub fn tokens(alloc: Global, text: &[u8]) -> Result<Vec<Token>, LexFault>
     requires { length text.now + 1 < 2 ^ 32 }
     ensures tokens { IfOk result (λ tokens. IsTokens text.now tokens.items) }

@@ -5,10 +5,10 @@ use Rattle.std.specs.Result.{IfOk, IfErr}
 use Rattle.std.proofs.lemmas.Bool.{cases_Bool, and_parts, and_from, or_cases, or_from, or_parts, ne_eqb, eqb-true, eqb-false, both_ways, leb-true, lt-leb, not-true, not_from_false, false_from_ne_true, true_from_ne_false, agree_below, agree_below_at, cases_lt}
 use Rattle.vf_fours.specs.Bits.{FourState}
 use Rattle.vf_number.specs.declared.fault.NumberFault.{NumberFault}
-use Rattle.vf_number.specs.Runs.{run, behind}
+use Rattle.vf_number.specs.Runs.{run, after_run}
 use Rattle.vf_number.specs.Numbers.{Read, IsNumber, begins_number, BeginsNumber}
 use Rattle.vf_number.specs.Reading.{Shows, number_at}
-use Rattle.vf_number.proofs.CallerLemmas.{run_parts, run_all, behind_ends, run_of, behind_of, number_sound, number_complete, number_begins, behind_shorter}
+use Rattle.vf_number.proofs.CallerLemmas.{run_parts, run_all, after_run_ends, run_of, after_run_of, number_sound, number_complete, number_begins, after_shorter}
 use Rattle.vf_lexeme.specs.declared.kinds.TokenKind.TheVariants as kinds
 use Rattle.vf_lexeme.specs.declared.kinds.Lexeme.{Lexeme}
 use Rattle.vf_lexeme.specs.declared.kinds.Lexeme.TheVariants as lexemes
@@ -20,7 +20,7 @@ use Rattle.vf_lexeme.specs.Strings.{IsQuoted}
 use Rattle.vf_lexeme.specs.Signs.{is_sign, IsSignAt}
 use Rattle.vf_lexeme.specs.Lexemes.{Seen, is_stray, Begins, blank, skipped, open_comment, name, word, escaped, system, number, bad_number, quoted, open_string, sign, directive, dollar, stray, Refuses}
 use Rattle.vf_lexeme.specs.Reading as reading
-use Rattle.vf_lexeme.specs.Reading.{opens_skip, behind_skip, inside_at, sign_length, marked, lexeme_at, decoded, Fails, Gives}
+use Rattle.vf_lexeme.specs.Reading.{opens_skip, after_skip, inside_at, sign_length, other_lexeme, lexeme_at, decoded, Fails, Gives}
 use Rattle.vf_lexeme.proofs.PlainNames.{first_in_name, is_name_front}
 use Rattle.vf_lexeme.proofs.Skipping.{skip_sound, open_sound, skip_complete, open_complete, opens_not, opens_sound}
 use Rattle.vf_lexeme.proofs.Quoting.{string_sound, string_complete}
@@ -84,45 +84,45 @@ number_no_skip b rest h =
 
 -- ---- soundness
 
-skipped_sound : (text : List ℕ) (o : Option (List ℕ)) → opens_skip text ≡ true → behind_skip text ≡ o
+skipped_sound : (text : List ℕ) (o : Option (List ℕ)) → opens_skip text ≡ true → after_skip text ≡ o
     → Begins text (reading.seen_skip o)
 skipped_sound text (Some rest) h e = skipped rest (skip_sound text rest h e) refl
 skipped_sound text None h e = open_comment (open_sound text h e) refl
 
-named_sound : (first : ℕ) (rest : List ℕ) → begins_name first ≡ true → Begins (first ∷ rest) (reading.named (first ∷ rest))
-unfolding reading.named
+named_sound : (first : ℕ) (rest : List ℕ) → begins_name first ≡ true → Begins (first ∷ rest) (reading.name_token (first ∷ rest))
+unfolding reading.name_token
 named_sound first rest h =
     let text = first ∷ rest in
     let front = run is_name_byte text in
     elim (cases_Bool (is_reserved front)) [
-      | inl r ↦ word front (behind is_name_byte text) (is_name_front first rest h) r (behind_ends is_name_byte text)
+      | inl r ↦ word front (after_run is_name_byte text) (is_name_front first rest h) r (after_run_ends is_name_byte text)
           (run_parts is_name_byte text) (rw r refl)
-      | inr r ↦ name front (behind is_name_byte text) (is_name_front first rest h) r (behind_ends is_name_byte text)
+      | inr r ↦ name front (after_run is_name_byte text) (is_name_front first rest h) r (after_run_ends is_name_byte text)
           (run_parts is_name_byte text) (rw r refl)
     ]
 
-escaped_sound : (rest : List ℕ) → Begins (92 ∷ rest) (reading.escaped rest)
-unfolding reading.escaped
-escaped_sound rest = escaped (run is_no_blank rest) (behind is_no_blank rest) (run_all is_no_blank rest)
-    (behind_ends is_no_blank rest) (ap (λ (t : List ℕ). 92 ∷ t) (run_parts is_no_blank rest)) refl
+escaped_sound : (rest : List ℕ) → Begins (92 ∷ rest) (reading.escaped_name rest)
+unfolding reading.escaped_name
+escaped_sound rest = escaped (run is_no_blank rest) (after_run is_no_blank rest) (run_all is_no_blank rest)
+    (after_run_ends is_no_blank rest) (ap (λ (t : List ℕ). 92 ∷ t) (run_parts is_no_blank rest)) refl
 
 -- what a `$` begins
 run_dollar : (rest : List ℕ) → run is_name_byte (36 ∷ rest) ≡ 36 ∷ run is_name_byte rest
 unfolding run
 run_dollar rest = refl
 
-behind_dollar : (rest : List ℕ) → behind is_name_byte (36 ∷ rest) ≡ behind is_name_byte rest
-unfolding behind
-behind_dollar rest = refl
+after_dollar : (rest : List ℕ) → after_run is_name_byte (36 ∷ rest) ≡ after_run is_name_byte rest
+unfolding after_run
+after_dollar rest = refl
 
-system_none : (rest : List ℕ) → run is_name_byte rest ≡ [] → reading.system (36 ∷ rest) ≡ Err BadCharacter
-unfolding reading.system
+system_none : (rest : List ℕ) → run is_name_byte rest ≡ [] → reading.system_name (36 ∷ rest) ≡ Err BadCharacter
+unfolding reading.system_name
 system_none rest h = rw (run_dollar rest, h) refl
 
 system_some : (rest : List ℕ) (first : ℕ) (more : List ℕ) → run is_name_byte rest ≡ first ∷ more
-    → reading.system (36 ∷ rest) ≡ Ok (lexemes.Token (kinds.System (36 ∷ first ∷ more)), behind is_name_byte rest)
-unfolding reading.system
-system_some rest first more h = rw (run_dollar rest, h, behind_dollar rest, lt-leb (suc (suc (length more))) 1 (omega arith)) refl
+    → reading.system_name (36 ∷ rest) ≡ Ok (lexemes.Token (kinds.System (36 ∷ first ∷ more)), after_run is_name_byte rest)
+unfolding reading.system_name
+system_some rest first more h = rw (run_dollar rest, h, after_dollar rest, lt-leb (suc (suc (length more))) 1 (omega arith)) refl
 
 run_none : (rest : List ℕ) → run is_name_byte rest ≡ [] → Ends is_name_byte rest
 unfolding run
@@ -132,14 +132,14 @@ run_none (b ∷ rest) h = elim (cases_Bool (is_name_byte b)) [
   | inr o ↦ o
 ]
 
-system_by : (rest front : List ℕ) → run is_name_byte rest ≡ front → Begins (36 ∷ rest) (reading.system (36 ∷ rest))
+system_by : (rest front : List ℕ) → run is_name_byte rest ≡ front → Begins (36 ∷ rest) (reading.system_name (36 ∷ rest))
 system_by rest [] h = dollar rest (run_none rest h) refl (system_none rest h)
 system_by rest (first ∷ more) h =
     let all : list_all is_name_byte (first ∷ more) ≡ true = sym (ap (list_all is_name_byte) h) ∙ run_all is_name_byte rest in
     let p = and_parts (is_name_byte first) (list_all is_name_byte more) all in
-    let whole : rest ≡ first ∷ (more ++ behind is_name_byte rest) = run_parts is_name_byte rest
-    ∙ ap (λ (t : List ℕ). t ++ behind is_name_byte rest) h in
-    system first more (behind is_name_byte rest) p.0 p.1 (behind_ends is_name_byte rest) (ap (λ (t : List ℕ). 36 ∷ t) whole)
+    let whole : rest ≡ first ∷ (more ++ after_run is_name_byte rest) = run_parts is_name_byte rest
+    ∙ ap (λ (t : List ℕ). t ++ after_run is_name_byte rest) h in
+    system first more (after_run is_name_byte rest) p.0 p.1 (after_run_ends is_name_byte rest) (ap (λ (t : List ℕ). 36 ∷ t) whole)
     (system_some rest first more h)
 
 some_none : {A : Type 0} (o : Option A) (x : A) → o ≡ Some x → o ≡ None → ⊥
@@ -160,13 +160,13 @@ numbered_by : (text : List ℕ) (r : Read) → IsNumber text r → Begins text (
 numbered_by text (Ok r) is = number r.0 r.1 is refl
 numbered_by text (Err fault) is = bad_number fault is refl
 
-numbered_sound : (first : ℕ) (rest : List ℕ) → begins_number first ≡ true → Begins (first ∷ rest) (reading.numbered (first ∷ rest))
-unfolding reading.numbered
+numbered_sound : (first : ℕ) (rest : List ℕ) → begins_number first ≡ true → Begins (first ∷ rest) (reading.number_token (first ∷ rest))
+unfolding reading.number_token
 numbered_sound first rest h = numbered_by (first ∷ rest) (number_at (first ∷ rest)) (number_sound (first ∷ rest) h)
 
 signed_sound : (first : ℕ) (rest : List ℕ) → begins_other first ≡ true → opens_skip (first ∷ rest) ≡ false
-    → Begins (first ∷ rest) (reading.signed (first ∷ rest))
-unfolding reading.signed
+    → Begins (first ∷ rest) (reading.sign_token (first ∷ rest))
+unfolding reading.sign_token
 signed_sound first rest other h =
     let text = first ∷ rest in
     let n = sign_length text in
@@ -178,8 +178,8 @@ signed_sound first rest other h =
     ]
 
 marked_sound : (first : ℕ) (rest : List ℕ) → is_blank first ≡ false → begins_name first ≡ false
-    → opens_skip (first ∷ rest) ≡ false → Begins (first ∷ rest) (marked (first ∷ rest))
-unfolding marked reading.quoted
+    → opens_skip (first ∷ rest) ≡ false → Begins (first ∷ rest) (other_lexeme (first ∷ rest))
+unfolding other_lexeme reading.string_token
 marked_sound first rest blank_no name_no h = elim (cases_Bool (begins_number first)) [
   | inl n ↦ rw n (numbered_sound first rest n)
   | inr n ↦ elim (cases_Bool (eqb first 34)) [
@@ -200,14 +200,14 @@ marked_sound first rest blank_no name_no h = elim (cases_Bool (begins_number fir
 ]
 
 pub lexeme_sound : (text : List ℕ) → 0 < length text → Begins text (lexeme_at text)
-unfolding lexeme_at reading.skipped
+unfolding lexeme_at reading.skipped_lexeme
 lexeme_sound [] some = absurd (omega arith)
 lexeme_sound (first ∷ rest) some = elim (cases_Bool (is_blank first)) [
   | inl b ↦ rw b (blank first rest b refl refl)
   | inr b ↦ elim (cases_Bool (begins_name first)) [
     | inl n ↦ rw (b, n) (named_sound first rest n)
     | inr n ↦ elim (cases_Bool (opens_skip (first ∷ rest))) [
-      | inl s ↦ rw (b, n, s) (skipped_sound (first ∷ rest) (behind_skip (first ∷ rest)) s refl)
+      | inl s ↦ rw (b, n, s) (skipped_sound (first ∷ rest) (after_skip (first ∷ rest)) s refl)
       | inr s ↦ rw (b, n, s) (marked_sound first rest b n s)
     ]
   ]
@@ -219,7 +219,7 @@ at_blank : (b : ℕ) (rest : List ℕ) → is_blank b ≡ true → lexeme_at (b 
 unfolding lexeme_at
 at_blank b rest h = rw h refl
 
-at_name : (b : ℕ) (rest : List ℕ) → begins_name b ≡ true → lexeme_at (b ∷ rest) ≡ reading.named (b ∷ rest)
+at_name : (b : ℕ) (rest : List ℕ) → begins_name b ≡ true → lexeme_at (b ∷ rest) ≡ reading.name_token (b ∷ rest)
 unfolding lexeme_at
 at_name b rest h = rw (name_no_blank b h, h) refl
 
@@ -246,31 +246,31 @@ skip_byte_cases b h = elim (or_cases (eqb b 47) (eqb b 40) h) [
 ]
 
 at_skip_byte : (b : ℕ) (rest : List ℕ) → skip_byte b ≡ true → opens_skip (b ∷ rest) ≡ true
-    → lexeme_at (b ∷ rest) ≡ reading.seen_skip (behind_skip (b ∷ rest))
-unfolding lexeme_at reading.skipped skip_byte
+    → lexeme_at (b ∷ rest) ≡ reading.seen_skip (after_skip (b ∷ rest))
+unfolding lexeme_at reading.skipped_lexeme skip_byte
 at_skip_byte b rest k h = elim (or_cases (eqb b 47) (eqb b 40) k) [
   | inl e ↦ let is = eqb-true b 47 e in let opens : opens_skip (47 ∷ rest) ≡ true = rw is at h in rw (is, opens) refl
   | inr e ↦ let is = eqb-true b 40 e in let opens : opens_skip (40 ∷ rest) ≡ true = rw is at h in rw (is, opens) refl
 ]
 
-at_skip : (text : List ℕ) → opens_skip text ≡ true → lexeme_at text ≡ reading.seen_skip (behind_skip text)
+at_skip : (text : List ℕ) → opens_skip text ≡ true → lexeme_at text ≡ reading.seen_skip (after_skip text)
 at_skip text h =
     let f = skip_front text h in
     let opens = sym (ap opens_skip f.2) ∙ h in
-    ap lexeme_at f.2 ∙ at_skip_byte f.0 f.1 f.3 opens ∙ ap (λ t. reading.seen_skip (behind_skip t)) (sym f.2)
+    ap lexeme_at f.2 ∙ at_skip_byte f.0 f.1 f.3 opens ∙ ap (λ t. reading.seen_skip (after_skip t)) (sym f.2)
 
 named_complete : (name rest : List ℕ) → IsName name → Ends is_name_byte rest
     → lexeme_at (name ++ rest) ≡ Ok (lexemes.Token (reading.name_kind (is_reserved name) name), rest)
-unfolding reading.named
+unfolding reading.name_token
 named_complete [] rest is ends = absurd is
 named_complete (b ∷ more) rest is ends =
     let all = and_from (is_name_byte b) (list_all is_name_byte more) (first_in_name b is.0) is.1 in
     at_name b (more ++ rest) is.0
-    ∙ rw (run_of is_name_byte (b ∷ more) rest all ends, behind_of is_name_byte (b ∷ more) rest all ends) refl
+    ∙ rw (run_of is_name_byte (b ∷ more) rest all ends, after_run_of is_name_byte (b ∷ more) rest all ends) refl
 
 at_number : (b : ℕ) (rest : List ℕ) → begins_number b ≡ true
     → lexeme_at (b ∷ rest) ≡ reading.seen_number (number_at (b ∷ rest))
-unfolding lexeme_at marked reading.numbered
+unfolding lexeme_at other_lexeme reading.number_token
 at_number b rest h = rw (number_no_blank b h, number_no_name b h, number_no_skip b rest h, h) refl
 
 number_first : (text : List ℕ) → BeginsNumber text → lexeme_at text ≡ reading.seen_number (number_at text)
@@ -281,23 +281,23 @@ number_seen : (text : List ℕ) (r : Read) → IsNumber text r → lexeme_at tex
 number_seen text r is = number_first text (number_begins text r is) ∙ ap reading.seen_number (number_complete text r is)
 
 at_quote : (rest : List ℕ) → lexeme_at (34 ∷ rest) ≡ reading.seen_string (inside_at false rest)
-unfolding lexeme_at marked reading.quoted opens_skip
+unfolding lexeme_at other_lexeme reading.string_token opens_skip
 at_quote [] = refl
 at_quote (b ∷ rest) = refl
 
 at_backslash : (rest : List ℕ) → lexeme_at
-    (92 ∷ rest) ≡ Ok (lexemes.Token (kinds.Name (run is_no_blank rest)), behind is_no_blank rest)
-unfolding lexeme_at marked reading.escaped opens_skip
+    (92 ∷ rest) ≡ Ok (lexemes.Token (kinds.Name (run is_no_blank rest)), after_run is_no_blank rest)
+unfolding lexeme_at other_lexeme reading.escaped_name opens_skip
 at_backslash [] = refl
 at_backslash (b ∷ rest) = refl
 
-at_dollar : (rest : List ℕ) → lexeme_at (36 ∷ rest) ≡ reading.system (36 ∷ rest)
-unfolding lexeme_at marked opens_skip
+at_dollar : (rest : List ℕ) → lexeme_at (36 ∷ rest) ≡ reading.system_name (36 ∷ rest)
+unfolding lexeme_at other_lexeme opens_skip
 at_dollar [] = refl
 at_dollar (b ∷ rest) = refl
 
 at_grave : (rest : List ℕ) → lexeme_at (96 ∷ rest) ≡ Ok (lexemes.Directive, rest)
-unfolding lexeme_at marked opens_skip
+unfolding lexeme_at other_lexeme opens_skip
 at_grave [] = refl
 at_grave (b ∷ rest) = refl
 
@@ -322,21 +322,21 @@ other_parts b h =
     record { blank_no = u.0; name_no = u.1; number_no = t.1; quote_no = s.1; escape_no = r.1; dollar_no = q.1; grave_no = p.1 }
 
 at_other : (b : ℕ) (rest : List ℕ) → begins_other b ≡ true → opens_skip (b ∷ rest) ≡ false
-    → lexeme_at (b ∷ rest) ≡ reading.signed (b ∷ rest)
-unfolding lexeme_at marked
+    → lexeme_at (b ∷ rest) ≡ reading.sign_token (b ∷ rest)
+unfolding lexeme_at other_lexeme
 at_other b rest h k =
     let o = other_parts b h in
     rw (o.blank_no, o.name_no, k, o.number_no, o.quote_no, o.escape_no, o.dollar_no, o.grave_no) refl
 
 seen_sign : (text front rest : List ℕ) (n : ℕ) → sign_length text ≡ n → 0 < n → take n text ≡ front → drop n text ≡ rest
-    → reading.signed text ≡ Ok (lexemes.Token (kinds.Sign front), rest)
-unfolding reading.signed
+    → reading.sign_token text ≡ Ok (lexemes.Token (kinds.Sign front), rest)
+unfolding reading.sign_token
 seen_sign text front rest n e some f b =
     let zero_no : (sign_length text == 0) ≡ false = ne_eqb (sign_length text) 0 (λ x. absurd (omega arith)) in
     rw (zero_no, e, f, b) refl
 
-no_sign_seen : (text : List ℕ) → sign_length text ≡ 0 → reading.signed text ≡ Err BadCharacter
-unfolding reading.signed
+no_sign_seen : (text : List ℕ) → sign_length text ≡ 0 → reading.sign_token text ≡ Err BadCharacter
+unfolding reading.sign_token
 no_sign_seen text e = rw e refl
 
 sign_front : (text front rest : List ℕ) → IsSignAt text front rest → (b : ℕ) × (more : List ℕ) × (text ≡ b ∷ more)
@@ -349,8 +349,8 @@ sign_seen text front rest s =
     let f = sign_front text front rest s in
     let m = sign_complete text front rest s in
     let none : opens_skip text ≡ false = false_from_ne_true (opens_skip text) (λ e. s.no_skip (opens_sound text e)) in
-    ap lexeme_at f.2 ∙ at_other f.0 f.1 f.3 (sym (ap opens_skip f.2) ∙ none) ∙ ap reading.signed (sym f.2)
-    ∙ seen_sign text front rest (sign_length text) refl m.some m.front m.behind
+    ap lexeme_at f.2 ∙ at_other f.0 f.1 f.3 (sym (ap opens_skip f.2) ∙ none) ∙ ap reading.sign_token (sym f.2)
+    ∙ seen_sign text front rest (sign_length text) refl m.some m.front m.after
 
 -- a stray byte begins nothing
 stray_is : (b : ℕ) → is_stray b ≡ true → (is_blank b ≡ false) × ((leb 32 b && leb b 126) ≡ false)
@@ -389,10 +389,10 @@ stray_no_skip b h =
     absurd (both_ways (leb 32 b && leb b 126) s.1 print)))
 
 -- the first byte of a sign is printable
-sign_no_stray : (front behind_sign : List ℕ) (b : ℕ) (rest : List ℕ) → is_sign front ≡ true → b ∷ rest ≡ front ++ behind_sign
+sign_no_stray : (front after_sign : List ℕ) (b : ℕ) (rest : List ℕ) → is_sign front ≡ true → b ∷ rest ≡ front ++ after_sign
     → is_stray b ≡ true → ⊥
-sign_no_stray [] behind_sign b rest listed e h = no_sign listed
-sign_no_stray (c ∷ front) behind_sign b rest listed e h =
+sign_no_stray [] after_sign b rest listed e h = no_sign listed
+sign_no_stray (c ∷ front) after_sign b rest listed e h =
     let first : c ≡ b = cc in
     let odd = (stray_is b h).1 in
     both_ways (leb 32 b && leb b 126) odd (ap (λ (x : ℕ). leb 32 x && leb x 126) (sym first) ∙ sign_printable c front listed)
@@ -413,12 +413,12 @@ stray_seen b rest h = at_other b rest (stray_other b h) (opens_by b rest (stray_
 
 system_complete : (first : ℕ) (more rest : List ℕ) → is_name_byte first ≡ true → list_all is_name_byte more ≡ true
     → Ends is_name_byte rest
-    → reading.system (36 ∷ first ∷ (more ++ rest)) ≡ Ok (lexemes.Token (kinds.System (36 ∷ first ∷ more)), rest)
+    → reading.system_name (36 ∷ first ∷ (more ++ rest)) ≡ Ok (lexemes.Token (kinds.System (36 ∷ first ∷ more)), rest)
 system_complete first more rest h all ends =
     let whole = and_from (is_name_byte first) (list_all is_name_byte more) h all in
     system_some (first ∷ (more ++ rest)) first more (run_of is_name_byte (first ∷ more) rest whole ends)
     ∙ ap (λ (t : List ℕ). Ok (lexemes.Token (kinds.System (36 ∷ first ∷ more)), t))
-    (behind_of is_name_byte (first ∷ more) rest whole ends)
+    (after_run_of is_name_byte (first ∷ more) rest whole ends)
 
 ends_run : (rest : List ℕ) → Ends is_name_byte rest → run is_name_byte rest ≡ []
 unfolding run
@@ -445,17 +445,17 @@ lexeme_complete text seen (word n rest is r ends e s) =
 lexeme_complete text seen (escaped n rest all ends e s) =
     ap lexeme_at e ∙ at_backslash (n ++ rest)
     ∙ ap₂ (λ (x y : List ℕ). Ok (lexemes.Token (kinds.Name x), y)) (run_of is_no_blank n rest all ends)
-    (behind_of is_no_blank n rest all ends) ∙ sym s
+    (after_run_of is_no_blank n rest all ends) ∙ sym s
 lexeme_complete text seen (system first more rest h all ends e s) = ap lexeme_at e ∙ at_dollar (first ∷ (more ++ rest))
     ∙ system_complete first more rest h all ends ∙ sym s
 lexeme_complete text seen (number v rest is s) = number_seen text (Ok (v, rest)) is ∙ sym s
 lexeme_complete text seen (bad_number fault is s) = number_seen text (Err fault) is ∙ sym s
-lexeme_complete text seen (quoted behind_quote value rest q e s) =
-    let p = string_complete behind_quote value rest q in
-    ap lexeme_at e ∙ at_quote behind_quote ∙ ap reading.seen_string p.1
+lexeme_complete text seen (quoted after_quote value rest q e s) =
+    let p = string_complete after_quote value rest q in
+    ap lexeme_at e ∙ at_quote after_quote ∙ ap reading.seen_string p.1
     ∙ ap (λ (v : List ℕ). Ok (lexemes.Token (kinds.Quoted v), rest)) p.2 ∙ sym s
-lexeme_complete text seen (open_string behind_quote h e s) =
-    ap lexeme_at e ∙ at_quote behind_quote ∙ open_string_seen behind_quote (inside_at false behind_quote) refl h ∙ sym s
+lexeme_complete text seen (open_string after_quote h e s) =
+    ap lexeme_at e ∙ at_quote after_quote ∙ open_string_seen after_quote (inside_at false after_quote) refl h ∙ sym s
 lexeme_complete text seen (sign front rest is s) = sign_seen text front rest is ∙ sym s
 lexeme_complete text seen (directive rest e s) = ap lexeme_at e ∙ at_grave rest ∙ sym s
 lexeme_complete text seen (dollar rest ends e s) = ap lexeme_at e ∙ at_dollar rest ∙ system_none rest (ends_run rest ends) ∙ sym s
@@ -480,7 +480,7 @@ found_from view text (Err e) some h = tt
 pub shorter_from : {A : Type 0} (view : A → Lexeme × List ℕ) (text : List ℕ) (r : Result A LexemeFault) → 0 < length text
     → Gives view r (lexeme_at text) → IfOk r (λ x. length (view x).1 < length text)
 shorter_from view text (Ok x) some h =
-    behind_shorter text (view x).1 (begins_takes text (Ok (view x)) (subst (λ s. Begins text s) h (lexeme_sound text some)))
+    after_shorter text (view x).1 (begins_takes text (Ok (view x)) (subst (λ s. Begins text s) h (lexeme_sound text some)))
 shorter_from view text (Err e) some h = tt
 
 refused_by : (text : List ℕ) (e : LexemeFault) → 0 < length text → Fails e (lexeme_at text) → Refuses text e

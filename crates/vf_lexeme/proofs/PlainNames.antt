@@ -2,8 +2,8 @@
 use Rattle.std.proofs.Common.{◌≡◌, ℕ, ◌==◌, ◌||◌, ◌≤◌, true, false, List, [], ◌∷◌, ◌++◌, length, get_or, refl, ap, sym, subst, ◌∙◌, inl, inr, arith}
 use Rattle.std.specs.List.{list_all}
 use Rattle.std.proofs.lemmas.Bool.{or_cases, or_left, or_right, and_from, both_ways}
-use Rattle.vf_number.specs.Runs.{run, behind}
-use Rattle.vf_number.proofs.CallerLemmas.{run_all, run_parts, behind_ends, run_of, behind_of}
+use Rattle.vf_number.specs.Runs.{run, after_run}
+use Rattle.vf_number.proofs.CallerLemmas.{run_all, run_parts, after_run_ends, run_of, after_run_of}
 use Rattle.vf_lexeme.specs.Bytes.{is_letter, is_digit, begins_name, is_name_byte, Ends}
 use Rattle.vf_lexeme.specs.Words.{IsName, IsNameAt, named, unnamed}
 
@@ -19,10 +19,10 @@ unfolding run
 is_name_front first rest h = rw (first_in_name first h) (h, run_all is_name_byte rest)
 
 pub named_front : (text front rest : List ℕ) → 1 ≤ length text → begins_name (get_or text 0 0) ≡ true
-    → front ≡ run is_name_byte text → rest ≡ behind is_name_byte text → IsNameAt text front rest
+    → front ≡ run is_name_byte text → rest ≡ after_run is_name_byte text → IsNameAt text front rest
 named_front [] front rest some h e f = absurd (omega arith)
 named_front (first ∷ more) front rest some h e f =
-    rw (e, f) (named (is_name_front first more h) (behind_ends is_name_byte (first ∷ more))
+    rw (e, f) (named (is_name_front first more h) (after_run_ends is_name_byte (first ∷ more))
     (run_parts is_name_byte (first ∷ more)))
 
 pub unnamed_front : (text : List ℕ) → 1 ≤ length text → begins_name (get_or text 0 0) ≡ false → IsNameAt text [] text
@@ -32,11 +32,11 @@ unnamed_front (first ∷ rest) some h = unnamed h refl refl
 -- ---- one name
 
 named_run : (n rest : List ℕ) → IsName n → Ends is_name_byte rest → (run is_name_byte (n ++ rest) ≡ n)
-    × (behind is_name_byte (n ++ rest) ≡ rest)
+    × (after_run is_name_byte (n ++ rest) ≡ rest)
 named_run [] rest is ends = absurd is
 named_run (b ∷ n) rest is ends =
     let all = and_from (is_name_byte b) (list_all is_name_byte n) (first_in_name b is.0) is.1 in
-    (run_of is_name_byte (b ∷ n) rest all ends, behind_of is_name_byte (b ∷ n) rest all ends)
+    (run_of is_name_byte (b ∷ n) rest all ends, after_run_of is_name_byte (b ∷ n) rest all ends)
 
 both_kinds : (n rest : List ℕ) → IsName n → Ends begins_name (n ++ rest) → ⊥
 both_kinds [] rest is ends = is
@@ -48,7 +48,7 @@ names_once text n rest other more (named is ends e) (named is2 ends2 e2) =
     let a = named_run n rest is ends in
     let b = named_run other more is2 ends2 in
     let same : n ++ rest ≡ other ++ more = sym e ∙ e2 in
-    (sym a.0 ∙ ap (run is_name_byte) same ∙ b.0, sym a.1 ∙ ap (behind is_name_byte) same ∙ b.1)
+    (sym a.0 ∙ ap (run is_name_byte) same ∙ b.0, sym a.1 ∙ ap (after_run is_name_byte) same ∙ b.1)
 names_once text n rest other more (named is ends e) (unnamed none f g) =
     absurd (both_kinds n rest is (subst (Ends begins_name) e none))
 names_once text n rest other more (unnamed none f g) (named is ends e) =

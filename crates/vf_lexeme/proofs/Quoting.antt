@@ -85,7 +85,7 @@ octal_first b rest h (pair x t e) =
     let is : b ≡ 92 = cc in
     absurd (omega arith)
 
--- an escape at the front of what stands behind a `\`
+-- an escape at the front of what stands after a `\`
 record IsCoded (a : ℕ) (rest : List ℕ) (code : ℕ × ℕ) : Type 0 where
   within : code.1 ≤ length rest
   is_escape : IsEscape (a ∷ take code.1 rest) code.0 (drop code.1 rest)
@@ -168,10 +168,10 @@ spelled_by zero text h (pair {b} {rest} x t e) = let size = ap length e in absur
 spelled_by (suc k) text h (pair {b} {rest} x t e) =
     let s = escape_coded b rest x in
     let n = (escape_code b rest).1 in
-    let behind = drop n rest in
+    let after = drop n rest in
     let size = ap length e in
-    let more = spelled_by k behind (omega (arith, length-drop n rest)) (s.keeps t) in
-    let whole : text ≡ 92 ∷ ((b ∷ take n rest) ++ behind) = e ∙ ap (λ (r : List ℕ). 92 ∷ b ∷ r) (sym (take-append-drop n rest)) in
+    let more = spelled_by k after (omega (arith, length-drop n rest)) (s.keeps t) in
+    let whole : text ≡ 92 ∷ ((b ∷ take n rest) ++ after) = e ∙ ap (λ (r : List ℕ). 92 ∷ b ∷ r) (sym (take-append-drop n rest)) in
     subst (λ v. Spells text v) (sym (ap (decoded 0) e ∙ pair_piece b rest)) (escape s.is_escape more whole)
 
 pub string_sound : (text inside rest : List ℕ) → inside_at false text ≡ Some (inside, rest) → IsQuoted text (decoded 0 inside) rest

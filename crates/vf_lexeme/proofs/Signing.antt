@@ -155,7 +155,7 @@ drop_front (b ∷ front) rest = drop_front front rest
 pub record IsMeasuredAs (text sign rest : List ℕ) : Type 0 where
   pub some : 0 < sign_length text
   pub front : take (sign_length text) text ≡ sign
-  pub behind : drop (sign_length text) text ≡ rest
+  pub after : drop (sign_length text) text ≡ rest
 
 pub sign_complete : (text sign rest : List ℕ) → IsSignAt text sign rest → IsMeasuredAs text sign rest
 sign_complete text [] rest s = absurd (no_sign s.listed)
@@ -172,7 +172,7 @@ sign_complete text (b ∷ sign) rest s =
     record {
       some = some;
       front = ap (λ (x : ℕ). take x text) is ∙ ap (take k) s.parts ∙ take_front (b ∷ sign) rest;
-      behind = ap (λ (x : ℕ). drop x text) is ∙ ap (drop k) s.parts ∙ drop_front (b ∷ sign) rest;
+      after = ap (λ (x : ℕ). drop x text) is ∙ ap (drop k) s.parts ∙ drop_front (b ∷ sign) rest;
     }
 
 -- ---- no sign

@@ -2,6 +2,7 @@
 -- 3.7.)
 use Rattle.std.specs.Prelude.{◌≢◌, ℕ, Bool, ◌==◌, ◌&&◌, ◌||◌, not, nat_le, List, ◌++◌}
 pub use Rattle.vf_number.specs.Bytes.{is_digit, is_blank, Ends}
+use Rattle.vf_number.specs.Runs.{after_run}
 
 abbrev pub is_letter : ℕ → Bool
 is_letter byte = (nat_le 65 byte && nat_le byte 90) || (nat_le 97 byte && nat_le byte 122)
@@ -21,6 +22,10 @@ is_no_blank byte = not (is_blank byte)
 -- a byte before the end of the line
 abbrev pub is_no_newline : ℕ → Bool
 is_no_newline byte = not (byte == 10)
+
+-- from the end of the line on
+abbrev pub after_line : List ℕ → List ℕ
+after_line text = after_run is_no_newline text
 
 -- the mark stands nowhere in the text
 abbrev pub Lacks : List ℕ → List ℕ → Type 0

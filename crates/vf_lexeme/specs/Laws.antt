@@ -1,6 +1,6 @@
 -- What holds of every text.
 use Rattle.std.specs.Prelude.{◌≡◌, ℕ, ◌<◌, List, length, Ok}
-pub use Rattle.vf_number.specs.Bytes.{IsBehind}
+pub use Rattle.vf_number.specs.Bytes.{IsRest}
 use Rattle.vf_lexeme.specs.declared.kinds.Lexeme.{Lexeme}
 use Rattle.vf_lexeme.specs.declared.kinds.Passed.{Passed}
 use Rattle.vf_lexeme.specs.Words.{IsNameAt}
@@ -26,10 +26,10 @@ abbrev pub NamesOnce : Type 0
 NamesOnce = (text name rest other more : List ℕ) → IsNameAt text name rest → IsNameAt text other more
     → (name ≡ other) × (rest ≡ more)
 
--- a lexeme takes one byte or more, and leaves what is behind it
+-- a lexeme takes one byte or more, and leaves what is after it
 abbrev pub BeginsTakes : Type 0
-BeginsTakes = (text : List ℕ) (lexeme : Lexeme) (rest : List ℕ) → Begins text (Ok (lexeme, rest)) → IsBehind text rest
+BeginsTakes = (text : List ℕ) (lexeme : Lexeme) (rest : List ℕ) → Begins text (Ok (lexeme, rest)) → IsRest text rest
 
 -- the same of a text that is not taken
 abbrev pub PassesTakes : Type 0
-PassesTakes = (text : List ℕ) (passed : Passed) (rest : List ℕ) → Passes text (Ok (passed, rest)) → IsBehind text rest
+PassesTakes = (text : List ℕ) (passed : Passed) (rest : List ℕ) → Passes text (Ok (passed, rest)) → IsRest text rest

@@ -19,7 +19,7 @@ use Rattle.vf_lexeme.specs.Words.{IsName, is_reserved}
 use Rattle.vf_lexeme.specs.Strings.{IsQuoted}
 use Rattle.vf_lexeme.specs.Signs.{OpensSkip, IsSkipped, IsOpen, IsSignAt}
 
--- a lexeme and the bytes behind it, or a fault
+-- a lexeme and the bytes after it, or a fault
 abbrev pub Seen : Type 0
 Seen = Result (Lexeme × List ℕ) LexemeFault
 
@@ -49,16 +49,16 @@ pub data Begins (text : List ℕ) (seen : Seen) : Type 0 where
   number : (value : FourState) (rest : List ℕ) → IsNumber text (Ok (value, rest))
       → seen ≡ Ok (Token (Number value), rest) → Begins text seen
   bad_number : (fault : NumberFault) → IsNumber text (Err fault) → seen ≡ Err (of_number fault) → Begins text seen
-  quoted : (behind value rest : List ℕ) → IsQuoted behind value rest → text ≡ 34 ∷ behind
+  quoted : (after value rest : List ℕ) → IsQuoted after value rest → text ≡ 34 ∷ after
       → seen ≡ Ok (Token (Quoted value), rest) → Begins text seen
-  open_string : (behind : List ℕ) → ((value rest : List ℕ) → IsQuoted behind value rest → ⊥) → text ≡ 34 ∷ behind
+  open_string : (after : List ℕ) → ((value rest : List ℕ) → IsQuoted after value rest → ⊥) → text ≡ 34 ∷ after
       → seen ≡ Err OpenString → Begins text seen
   sign : (sign rest : List ℕ) → IsSignAt text sign rest → seen ≡ Ok (Token (Sign sign), rest) → Begins text seen
   directive : (rest : List ℕ) → text ≡ 96 ∷ rest → seen ≡ Ok (Directive, rest) → Begins text seen
   dollar : (rest : List ℕ) → Ends is_name_byte rest → text ≡ 36 ∷ rest → seen ≡ Err BadCharacter → Begins text seen
   stray : (byte : ℕ) (rest : List ℕ) → is_stray byte ≡ true → text ≡ byte ∷ rest → seen ≡ Err BadCharacter → Begins text seen
 
--- the text does not begin with a lexeme, for that reason; want of memory has none
+-- the text does not begin with a lexeme, for that reason; out of memory says nothing of it
 abbrev pub Refuses : List ℕ → LexemeFault → Type 0
 Refuses text BadCharacter = Begins text (Err BadCharacter)
 Refuses text OpenComment = Begins text (Err OpenComment)
@@ -67,7 +67,7 @@ Refuses text BadNumber = Begins text (Err BadNumber)
 Refuses text TooWide = Begins text (Err TooWide)
 Refuses text Memory = Unit {0}
 
--- what is passed over and the bytes behind it, or what does not end
+-- what is passed over and the bytes after it, or what does not end
 abbrev pub SeenPassing : Type 0
 SeenPassing = Result (Passed × List ℕ) OpenFault
 
@@ -76,9 +76,9 @@ pub data Passes (text : List ℕ) (seen : SeenPassing) : Type 0 where
   pass_directive : (rest : List ℕ) → text ≡ 96 ∷ rest → seen ≡ Ok (passed.Directive, rest) → Passes text seen
   pass_skipped : (rest : List ℕ) → IsSkipped text rest → seen ≡ Ok (passed.Text, rest) → Passes text seen
   pass_open_comment : IsOpen text → seen ≡ Err open_faults.Comment → Passes text seen
-  pass_quoted : (behind value rest : List ℕ) → IsQuoted behind value rest → text ≡ 34 ∷ behind
+  pass_quoted : (after value rest : List ℕ) → IsQuoted after value rest → text ≡ 34 ∷ after
       → seen ≡ Ok (passed.Text, rest) → Passes text seen
-  pass_open_string : (behind : List ℕ) → ((value rest : List ℕ) → IsQuoted behind value rest → ⊥) → text ≡ 34 ∷ behind
+  pass_open_string : (after : List ℕ) → ((value rest : List ℕ) → IsQuoted after value rest → ⊥) → text ≡ 34 ∷ after
       → seen ≡ Err open_faults.String → Passes text seen
   pass_escaped : (name rest : List ℕ) → list_all is_no_blank name ≡ true → Ends is_no_blank rest → text ≡ 92 ∷ (name ++ rest)
       → seen ≡ Ok (passed.Text, rest) → Passes text seen

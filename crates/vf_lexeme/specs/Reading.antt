@@ -3,7 +3,7 @@
 use Rattle.std.specs.Prelude.{◌≡◌, ℕ, zero, suc, ◌+◌, Bool, true, false, not, ◌==◌, ◌||◌, ◌&&◌, nat_le, List, [], ◌∷◌, length, take, drop, Option, Some, None, Result, Ok, Err, if◌then◌else◌}
 use Rattle.std.specs.Option.{option_map}
 use Rattle.vf_number.specs.Numbers.{Read, begins_number}
-use Rattle.vf_number.specs.Runs.{run, behind}
+use Rattle.vf_number.specs.Runs.{run, after_run, begins_with}
 use Rattle.vf_number.specs.Reading.{number_at}
 use Rattle.vf_lexeme.specs.declared.classes.Class.{Class}
 use Rattle.vf_lexeme.specs.declared.classes.Class.TheVariants.{NoBlank, Line, Name}
@@ -29,7 +29,7 @@ in_class Name byte = is_name_byte byte
 
 -- ---- answers
 
--- a fault is what reading gives, unless it is want of memory
+-- a fault is what reading gives, unless memory ran out
 abbrev pub Fails : {Y : Type 0} → LexemeFault → Result Y LexemeFault → Type 0
 Fails BadCharacter read = read ≡ Err BadCharacter
 Fails OpenComment read = read ≡ Err OpenComment
@@ -45,10 +45,6 @@ Gives view (Err e) read = Fails e read
 
 -- ---- comments and attributes
 
-unfoldable pub begins_with : ℕ → List ℕ → Bool
-begins_with byte [] = false
-begins_with byte (first ∷ rest) = first == byte
-
 unfoldable pub opens_skip : List ℕ → Bool
 opens_skip [] = false
 opens_skip (a ∷ []) = false
@@ -56,35 +52,35 @@ opens_skip (a ∷ b ∷ rest) =
     if a == 47 then b == 47 || b == 42 else
     if a == 40 && b == 42 then not (begins_with 41 rest) else false
 
--- the bytes behind a `*` and that byte, where they stand in front
-unfoldable pub after_star : ℕ → List ℕ → Option (List ℕ)
-after_star close [] = None
-after_star close (a ∷ []) = None
-after_star close (a ∷ b ∷ rest) = if a == 42 && b == close then Some rest else None
+-- the bytes after a `*` and that byte, where they stand in front
+unfoldable pub after_close : ℕ → List ℕ → Option (List ℕ)
+after_close close [] = None
+after_close close (a ∷ []) = None
+after_close close (a ∷ b ∷ rest) = if a == 42 && b == close then Some rest else None
 
 -- the first, or the second where there is no first
 abbrev pub or_else : Option (List ℕ) → Option (List ℕ) → Option (List ℕ)
 or_else (Some rest) other = Some rest
 or_else None other = other
 
--- the bytes behind the first `*` with that byte behind it
-unfoldable pub behind_star : ℕ → List ℕ → Option (List ℕ)
-behind_star close [] = None
-behind_star close (first ∷ rest) = or_else (after_star close (first ∷ rest)) (behind_star close rest)
+-- the bytes after the first `*` with that byte after it
+unfoldable pub after_first_close : ℕ → List ℕ → Option (List ℕ)
+after_first_close close [] = None
+after_first_close close (first ∷ rest) = or_else (after_close close (first ∷ rest)) (after_first_close close rest)
 
-unfoldable pub behind_skip : List ℕ → Option (List ℕ)
-behind_skip [] = None
-behind_skip (a ∷ []) = None
-behind_skip (a ∷ b ∷ rest) =
-    if b == 47 then Some (behind is_no_newline rest) else
-    if a == 47 then behind_star 47 rest else behind_star 41 rest
+unfoldable pub after_skip : List ℕ → Option (List ℕ)
+after_skip [] = None
+after_skip (a ∷ []) = None
+after_skip (a ∷ b ∷ rest) =
+    if b == 47 then Some (after_run is_no_newline rest) else
+    if a == 47 then after_first_close 47 rest else after_first_close 41 rest
 
 abbrev pub seen_skip : Option (List ℕ) → Seen
 seen_skip (Some rest) = Ok (lexemes.Blank, rest)
 seen_skip None = Err OpenComment
 
-unfoldable pub skipped : List ℕ → Seen
-skipped text = seen_skip (behind_skip text)
+unfoldable pub skipped_lexeme : List ℕ → Seen
+skipped_lexeme text = seen_skip (after_skip text)
 
 -- ---- names
 
@@ -92,18 +88,18 @@ abbrev pub name_kind : Bool → List ℕ → TokenKind
 name_kind true name = kinds.Word name
 name_kind false name = kinds.Name name
 
-unfoldable pub named : List ℕ → Seen
-named text =
+unfoldable pub name_token : List ℕ → Seen
+name_token text =
     let name = run is_name_byte text in
-    Ok (lexemes.Token (name_kind (is_reserved name) name), behind is_name_byte text)
+    Ok (lexemes.Token (name_kind (is_reserved name) name), after_run is_name_byte text)
 
-unfoldable pub escaped : List ℕ → Seen
-escaped text = Ok (lexemes.Token (kinds.Name (run is_no_blank text)), behind is_no_blank text)
+unfoldable pub escaped_name : List ℕ → Seen
+escaped_name text = Ok (lexemes.Token (kinds.Name (run is_no_blank text)), after_run is_no_blank text)
 
-unfoldable pub system : List ℕ → Seen
-system text =
+unfoldable pub system_name : List ℕ → Seen
+system_name text =
     let name = run is_name_byte text in
-    if nat_le (length name) 1 then Err BadCharacter else Ok (lexemes.Token (kinds.System name), behind is_name_byte text)
+    if nat_le (length name) 1 then Err BadCharacter else Ok (lexemes.Token (kinds.System name), after_run is_name_byte text)
 
 -- ---- signs
 
@@ -116,8 +112,8 @@ sign_length (a ∷ []) = if is_sign (a ∷ []) then 1 else 0
 sign_length (a ∷ b ∷ []) = short_length a b
 sign_length (a ∷ b ∷ c ∷ rest) = if is_sign (a ∷ b ∷ c ∷ []) then 3 else short_length a b
 
-unfoldable pub signed : List ℕ → Seen
-signed text =
+unfoldable pub sign_token : List ℕ → Seen
+sign_token text =
     let n = sign_length text in
     if n == 0 then Err BadCharacter else Ok (lexemes.Token (kinds.Sign (take n text)), drop n text)
 
@@ -132,7 +128,7 @@ inside_at escaped (b ∷ rest) =
     if not escaped && b == 34 then Some ([], rest) else
     option_map (λ p. (b ∷ p.0, p.1)) (inside_at (not escaped && b == 92) rest)
 
--- the byte that octal digits write, and how many stand behind the first
+-- the byte that octal digits write, and how many stand after the first
 unfoldable pub octal_code : ℕ → List ℕ → ℕ × ℕ
 octal_code a [] = (octal_byte (a ∷ []), 0)
 octal_code a (b ∷ []) = if is_octal b then (octal_byte (a ∷ b ∷ []), 1) else (octal_byte (a ∷ []), 0)
@@ -140,7 +136,7 @@ octal_code a (b ∷ c ∷ rest) =
     if not (is_octal b) then (octal_byte (a ∷ []), 0) else
     if is_octal c then (octal_byte (a ∷ b ∷ c ∷ []), 2) else (octal_byte (a ∷ b ∷ []), 1)
 
--- the same of what stands behind a `\`
+-- the same of what stands after a `\`
 unfoldable pub escape_code : ℕ → List ℕ → ℕ × ℕ
 escape_code first rest =
     if first == 110 then (10, 0) else
@@ -162,8 +158,8 @@ abbrev pub seen_string : Option (List ℕ × List ℕ) → Seen
 seen_string (Some p) = Ok (lexemes.Token (kinds.Quoted (decoded 0 p.0)), p.1)
 seen_string None = Err OpenString
 
-unfoldable pub quoted : List ℕ → Seen
-quoted text = seen_string (inside_at false text)
+unfoldable pub string_token : List ℕ → Seen
+string_token text = seen_string (inside_at false text)
 
 -- ---- numbers
 
@@ -171,27 +167,27 @@ abbrev pub seen_number : Read → Seen
 seen_number (Ok r) = Ok (lexemes.Token (kinds.Number r.0), r.1)
 seen_number (Err fault) = Err (of_number fault)
 
-unfoldable pub numbered : List ℕ → Seen
-numbered text = seen_number (number_at text)
+unfoldable pub number_token : List ℕ → Seen
+number_token text = seen_number (number_at text)
 
 -- ---- all
 
 -- by the first byte, what does not begin with a blank or a name
-unfoldable pub marked : List ℕ → Seen
-marked [] = Err BadCharacter
-marked (first ∷ rest) =
-    if begins_number first then numbered (first ∷ rest) else
-    if first == 34 then quoted rest else
-    if first == 92 then escaped rest else
-    if first == 36 then system (first ∷ rest) else
-    if first == 96 then Ok (lexemes.Directive, rest) else signed (first ∷ rest)
+unfoldable pub other_lexeme : List ℕ → Seen
+other_lexeme [] = Err BadCharacter
+other_lexeme (first ∷ rest) =
+    if begins_number first then number_token (first ∷ rest) else
+    if first == 34 then string_token rest else
+    if first == 92 then escaped_name rest else
+    if first == 36 then system_name (first ∷ rest) else
+    if first == 96 then Ok (lexemes.Directive, rest) else sign_token (first ∷ rest)
 
 unfoldable pub lexeme_at : List ℕ → Seen
 lexeme_at [] = Err BadCharacter
 lexeme_at (first ∷ rest) =
     if is_blank first then Ok (lexemes.Blank, rest) else
-    if begins_name first then named (first ∷ rest) else
-    if opens_skip (first ∷ rest) then skipped (first ∷ rest) else marked (first ∷ rest)
+    if begins_name first then name_token (first ∷ rest) else
+    if opens_skip (first ∷ rest) then skipped_lexeme (first ∷ rest) else other_lexeme (first ∷ rest)
 
 abbrev pub passing_string : Option (List ℕ × List ℕ) → SeenPassing
 passing_string (Some p) = Ok (passed.Text, p.1)
@@ -205,12 +201,12 @@ passing_skip (Some rest) = Ok (passed.Text, rest)
 passing_skip None = Err open_faults.Comment
 
 unfoldable pub passed_skip : List ℕ → SeenPassing
-passed_skip text = passing_skip (behind_skip text)
+passed_skip text = passing_skip (after_skip text)
 
 unfoldable pub passed_at : List ℕ → SeenPassing
 passed_at [] = Err open_faults.String
 passed_at (first ∷ rest) =
     if first == 96 then Ok (passed.Directive, rest) else
     if first == 34 then passed_string rest else
-    if first == 92 then Ok (passed.Text, behind is_no_blank rest) else
+    if first == 92 then Ok (passed.Text, after_run is_no_blank rest) else
     if opens_skip (first ∷ rest) then passed_skip (first ∷ rest) else Ok (passed.Text, rest)

@@ -11,7 +11,7 @@ is_octal byte = nat_le 48 byte && nat_le byte 55
 abbrev pub octal_byte : List ℕ → ℕ
 octal_byte digits = digits_value 8 digits % 256
 
--- What stands behind a `\`, the byte that it stands for, and what follows: `n`, `t`, one to three octal digits, as many as
+-- What stands after a `\`, the byte that it stands for, and what follows: `n`, `t`, one to three octal digits, as many as
 -- stand there, or any other byte but a newline, which stands for itself: `\` and `"` too.
 pub data IsEscape (code : List ℕ) (byte : ℕ) (rest : List ℕ) : Type 0 where
   newline : code ≡ codes "n" → byte ≡ 10 → IsEscape code byte rest
@@ -33,7 +33,7 @@ pub data Spells : List ℕ → List ℕ → Type 0 where
       → text ≡ 92 ∷ (code ++ rest) → Spells text (byte ∷ value)
 
 -- what follows the first quote of a string: the string's text, which stands for that value, its last quote, and the rest
-pub record IsQuoted (behind value rest : List ℕ) : Type 0 where
+pub record IsQuoted (after value rest : List ℕ) : Type 0 where
   pub inside : List ℕ
   pub spelled : Spells inside value
-  pub closed : behind ≡ inside ++ 34 ∷ rest
+  pub closed : after ≡ inside ++ 34 ∷ rest

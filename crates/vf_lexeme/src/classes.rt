@@ -26,7 +26,7 @@ fn is_name_byte(byte: u8) -> bool
     is_letter(byte) || is_digit(byte) || byte == b'_' || byte == b'$'
 }
 
-/// A class of bytes of which a lexeme that is no number is made.
+/// A class of bytes of which names and comments are made.
 #[derive(Clone, Copy, Debug, PartialEq, Eq)]
 pub(crate) enum Class {
     /// What may stand in an escaped name: anything but a blank (clause 3.7.1).

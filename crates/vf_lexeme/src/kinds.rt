@@ -1,10 +1,11 @@
-//! What stands at the front of a text, and why nothing can be read there.
+//! What stands at the front of a text, or why nothing does.
 
 ghost use Rattle.std.specs.Prelude.{◌≡◌};
 ghost use Rattle.vf_lexeme.specs.declared.kinds.LexemeFault.TheVariants as faults;
 ghost use Rattle.vf_lexeme.specs.Lexemes.{of_number};
 
 use std::alloc::{AllocError, AllocFailed};
+use thiserror::Error;
 use vf_base::{Memory, Text};
 use vf_fours::Fours;
 use vf_number::NumberFault;
@@ -12,7 +13,7 @@ use vf_number::NumberFault;
 /// What a token is.
 #[derive(Debug, Drop)]
 pub enum TokenKind {
-    /// A plain name that is no reserved word, or an escaped name without its `\` (clause 3.7).
+    /// A plain name that is not a reserved word, or an escaped name without its `\` (clause 3.7).
     Name(Text),
     /// The name of a system task or function, with its `$` (clause 3.7.3).
     System(Text),
@@ -29,7 +30,7 @@ pub enum TokenKind {
 /// What stands at the front of a text that is taken.
 #[derive(Debug, Drop)]
 pub enum Lexeme {
-    /// One blank, or one whole comment or attribute: no token.
+    /// One blank, or one whole comment or attribute, which is not a token.
     Blank,
     /// A token.
     Token(TokenKind),
@@ -38,23 +39,29 @@ pub enum Lexeme {
 }
 
 /// Why no lexeme stands at the front of a text.
-#[derive(Clone, Copy, Debug, PartialEq, Eq)]
+#[derive(Clone, Copy, Debug, PartialEq, Eq, Error)]
 pub enum LexemeFault {
     /// A byte that begins no token, comment, attribute or directive.
+    #[error("a byte that begins no token")]
     BadCharacter,
     /// A comment or an attribute that does not end.
+    #[error("a comment or an attribute that does not end")]
     OpenComment,
     /// A string that does not end on its line.
+    #[error("a string that does not end on its line")]
     OpenString,
     /// A `'` that no base and digit follow, a size of 0, a decimal above 2^128 - 1, or a plain number above 2^32 - 1.
+    #[error("a bad number")]
     BadNumber,
-    /// A size above 128 bits.
+    /// A size above 128 bits, of a number that is not a [`LexemeFault::BadNumber`].
+    #[error("a number of more than 128 bits")]
     TooWide,
-    /// Memory ran out.
+    /// Out of memory, which may come at any text.
+    #[error("out of memory")]
     Memory,
 }
 
-/// What stands at the front of a text that is not taken (a branch of a condition that does not hold).
+/// What stands at the front of a text that is not taken, in a branch of a condition that does not count.
 #[derive(Clone, Copy, Debug, PartialEq, Eq)]
 pub enum Passed {
     /// A whole comment, attribute, string or escaped name, or one other byte.
@@ -64,11 +71,13 @@ pub enum Passed {
 }
 
 /// What does not end at the front of a text that is not taken.
-#[derive(Clone, Copy, Debug, PartialEq, Eq)]
+#[derive(Clone, Copy, Debug, PartialEq, Eq, Error)]
 pub enum OpenFault {
     /// A comment or an attribute that does not end.
+    #[error("a comment or an attribute that does not end")]
     Comment,
     /// A string that does not end on its line.
+    #[error("a string that does not end on its line")]
     String,
 }
 

@@ -2,37 +2,37 @@
 
 ghost use Rattle.vf_lexeme.specs.Laws.{BeginsOnce, BeginsSome, BeginsTakes, NamesOnce, PassesOnce, PassesSome, PassesTakes};
 
-/// One thing at most stands at the front of a text that is taken.
+/// At most one thing stands at the front of a text that is taken.
 pub fn begins_once()
     ensures { BeginsOnce }
 {}
 
-/// Something, or a fault, stands at the front of every text that is taken and has a byte.
+/// A lexeme or a fault stands at the front of every text that is taken and not empty.
 pub fn begins_some()
     ensures { BeginsSome }
 {}
 
-/// A lexeme takes one byte or more, and leaves what is behind it.
+/// A lexeme takes at least one byte, and leaves what follows it.
 pub fn begins_takes()
     ensures { BeginsTakes }
 {}
 
-/// One thing at most stands at the front of a text that is not taken.
+/// At most one thing stands at the front of a text that is not taken.
 pub fn passes_once()
     ensures { PassesOnce }
 {}
 
-/// Something, or a fault, stands at the front of every text that is not taken and has a byte.
+/// Something or a fault stands at the front of every text that is not taken and not empty.
 pub fn passes_some()
     ensures { PassesSome }
 {}
 
-/// What is passed over takes one byte or more, and leaves what is behind it.
+/// What is passed over takes at least one byte, and leaves what follows it.
 pub fn passes_takes()
     ensures { PassesTakes }
 {}
 
-/// One plain name at most stands at the front of a text.
+/// At most one plain name stands at the front of a text.
 pub fn names_once()
     ensures { NamesOnce }
 {}

@@ -4,7 +4,7 @@ ghost use Rattle.std.specs.Prelude.{◌≡◌, ◌+◌, length, Ok};
 ghost use Rattle.std.specs.List.{list_any};
 ghost use Rattle.std.specs.Str.{bytes_eq};
 ghost use Rattle.vf_lexeme.specs.Words.{is_reserved, IsNameAt};
-ghost use Rattle.vf_lexeme.specs.Reading.{Gives, name_kind, named, escaped, system};
+ghost use Rattle.vf_lexeme.specs.Reading.{Gives, name_kind, name_token, escaped_name, system_name};
 
 use crate::classes::{Class, begins_name};
 use crate::{Lexeme, LexemeFault, TokenKind};
@@ -12,7 +12,7 @@ use std::alloc::Global;
 use vf_base::Text;
 use vf_number::ByteClass;
 
-/// The words that are no names: those of the language's grammar, and those of the standard that the language leaves out.
+/// The words that are not names: those of the language's grammar, and those of the standard that the language leaves out.
 #[rattlefmt::skip]
 const RESERVED: [&str; 94] = [
     "module", "parameter", "signed", "wire", "reg", "input", "output", "tri", "integer", "time",
@@ -65,9 +65,12 @@ fn name_kind(reserved: bool, name: Text) -> TokenKind
 }
 
 /// The plain name or reserved word at the front of a text.
-#[tactic(auto, unfolding(crate::specs::Reading::named))]
-pub(crate) fn named<'a>(alloc: Global, text: &'a [u8]) -> Result<(Lexeme, &'a [u8]), LexemeFault>
-    ensures { Gives (λ r. (r.0, r.1.now)) result (named text.now) }
+#[tactic(auto, unfolding(crate::specs::Reading::name_token))]
+pub(crate) fn name_token<'a>(
+    alloc: Global,
+    text: &'a [u8],
+) -> Result<(Lexeme, &'a [u8]), LexemeFault>
+    ensures { Gives (λ r. (r.0, r.1.now)) result (name_token text.now) }
 {
     let (name, rest) = Class::Name.split(text);
     let reserved = is_reserved(name);
@@ -75,10 +78,13 @@ pub(crate) fn named<'a>(alloc: Global, text: &'a [u8]) -> Result<(Lexeme, &'a [u
     Ok((Lexeme::Token(name_kind(reserved, name)), rest))
 }
 
-/// The escaped name behind its `\` (clause 3.7.1).
-#[tactic(auto, unfolding(crate::specs::Reading::escaped))]
-pub(crate) fn escaped<'a>(alloc: Global, text: &'a [u8]) -> Result<(Lexeme, &'a [u8]), LexemeFault>
-    ensures { Gives (λ r. (r.0, r.1.now)) result (escaped text.now) }
+/// The escaped name after its `\` (clause 3.7.1).
+#[tactic(auto, unfolding(crate::specs::Reading::escaped_name))]
+pub(crate) fn escaped_name<'a>(
+    alloc: Global,
+    text: &'a [u8],
+) -> Result<(Lexeme, &'a [u8]), LexemeFault>
+    ensures { Gives (λ r. (r.0, r.1.now)) result (escaped_name text.now) }
 {
     let (name, rest) = Class::NoBlank.split(text);
     let name = text_of(alloc, name)?;
@@ -86,9 +92,12 @@ pub(crate) fn escaped<'a>(alloc: Global, text: &'a [u8]) -> Result<(Lexeme, &'a 
 }
 
 /// The system name at the front of a text that begins with `$`; a `$` alone begins nothing (clause 3.7.3).
-#[tactic(auto, unfolding(crate::specs::Reading::system))]
-pub(crate) fn system<'a>(alloc: Global, text: &'a [u8]) -> Result<(Lexeme, &'a [u8]), LexemeFault>
-    ensures { Gives (λ r. (r.0, r.1.now)) result (system text.now) }
+#[tactic(auto, unfolding(crate::specs::Reading::system_name))]
+pub(crate) fn system_name<'a>(
+    alloc: Global,
+    text: &'a [u8],
+) -> Result<(Lexeme, &'a [u8]), LexemeFault>
+    ensures { Gives (λ r. (r.0, r.1.now)) result (system_name text.now) }
 {
     let (name, rest) = Class::Name.split(text);
     if name.len() <= 1 {
@@ -98,8 +107,8 @@ pub(crate) fn system<'a>(alloc: Global, text: &'a [u8]) -> Result<(Lexeme, &'a [
     Ok((Lexeme::Token(TokenKind::System(name)), rest))
 }
 
-/// The plain name at the front of a text, without a look at the reserved words, and the bytes behind it; the empty name
-/// where none begins there (clause 3.7).
+/// The plain name at the front of a text, which may be a reserved word, and the bytes after it; the empty name where none
+/// begins there (clause 3.7). No memory is taken.
 #[tactic(auto, using(crate::proofs::PlainNames::named_front, crate::proofs::PlainNames::unnamed_front))]
 pub fn name<'a>(text: &'a [u8]) -> (&'a [u8], &'a [u8])
     ensures found { IsNameAt text.now result.0.now result.1.now }

@@ -4,30 +4,30 @@ ghost use Rattle.std.specs.Prelude.{◌≡◌, ◌<◌, length, IfOk, IfErr, Ok,
 ghost use Rattle.vf_number.specs.Numbers.{BeginsNumber};
 ghost use Rattle.vf_number.specs.Reading.{Shows, number_at};
 ghost use Rattle.vf_lexeme.specs.Lexemes.{Begins, Refuses, Passes};
-ghost use Rattle.vf_lexeme.specs.Reading.{Gives, skipped, numbered, marked, lexeme_at, passed_string, passed_skip, passed_at};
+ghost use Rattle.vf_lexeme.specs.Reading.{Gives, skipped_lexeme, number_token, other_lexeme, lexeme_at, passed_string, passed_skip, passed_at};
 
 use crate::classes::{Class, begins_name};
-use crate::names::{escaped, named, system};
-use crate::signs::signed;
-use crate::skips::{behind_skip, opens_skip};
-use crate::strings::{inside, quoted};
+use crate::names::{escaped_name, name_token, system_name};
+use crate::signs::sign_token;
+use crate::skips::{after_skip, opens_skip};
+use crate::strings::{inside, string_token};
 use crate::{Lexeme, LexemeFault, OpenFault, Passed, TokenKind};
 use std::alloc::Global;
 use vf_fours::Fours;
 use vf_number::{ByteClass, NumberFault, begins_number, is_blank, number};
 
-/// The comment or attribute at the front of a text.
-#[tactic(auto, unfolding(crate::specs::Reading::skipped))]
-fn skipped<'a>(text: &'a [u8]) -> Result<(Lexeme, &'a [u8]), LexemeFault>
-    ensures { Gives (λ r. (r.0, r.1.now)) result (skipped text.now) }
+/// The comment or attribute at the front of a text, as a blank.
+#[tactic(auto, unfolding(crate::specs::Reading::skipped_lexeme))]
+fn skipped_lexeme<'a>(text: &'a [u8]) -> Result<(Lexeme, &'a [u8]), LexemeFault>
+    ensures { Gives (λ r. (r.0, r.1.now)) result (skipped_lexeme text.now) }
 {
-    match behind_skip(text) {
+    match after_skip(text) {
         Some(rest) => Ok((Lexeme::Blank, rest)),
         None => Err(LexemeFault::OpenComment),
     }
 }
 
-/// As `number`, equal to the function on lists.
+/// As [`number`], by a contract that is one equation.
 fn number_at<'a>(text: &'a [u8]) -> Result<(Fours, &'a [u8]), NumberFault>
     requires { BeginsNumber text.now }
     ensures { Shows (λ r. (r.0, r.1.now)) result (number_at text.now) }
@@ -36,10 +36,10 @@ fn number_at<'a>(text: &'a [u8]) -> Result<(Fours, &'a [u8]), NumberFault>
 }
 
 /// The number at the front of a text, as a token.
-#[tactic(auto, unfolding(crate::specs::Reading::numbered))]
-fn numbered<'a>(text: &'a [u8]) -> Result<(Lexeme, &'a [u8]), LexemeFault>
+#[tactic(auto, unfolding(crate::specs::Reading::number_token))]
+fn number_token<'a>(text: &'a [u8]) -> Result<(Lexeme, &'a [u8]), LexemeFault>
     requires { BeginsNumber text.now }
-    ensures { Gives (λ r. (r.0, r.1.now)) result (numbered text.now) }
+    ensures { Gives (λ r. (r.0, r.1.now)) result (number_token text.now) }
 {
     match number_at(text) {
         Ok((value, rest)) => Ok((Lexeme::Token(TokenKind::Number(value)), rest)),
@@ -47,33 +47,33 @@ fn numbered<'a>(text: &'a [u8]) -> Result<(Lexeme, &'a [u8]), LexemeFault>
     }
 }
 
-/// The lexeme at the front of a text that begins with no blank, plain name, comment or attribute.
-#[tactic(auto, unfolding(crate::specs::Reading::marked))]
-fn marked<'a>(alloc: Global, text: &'a [u8]) -> Result<(Lexeme, &'a [u8]), LexemeFault>
-    ensures { Gives (λ r. (r.0, r.1.now)) result (marked text.now) }
+/// The lexeme at the front of a text that does not begin with a blank, a plain name, a comment or an attribute.
+#[tactic(auto, unfolding(crate::specs::Reading::other_lexeme))]
+fn other_lexeme<'a>(alloc: Global, text: &'a [u8]) -> Result<(Lexeme, &'a [u8]), LexemeFault>
+    ensures { Gives (λ r. (r.0, r.1.now)) result (other_lexeme text.now) }
 {
     match text {
         [] => Err(LexemeFault::BadCharacter),
         [first, rest @ ..] => {
             let first = *first;
             if begins_number(first) {
-                numbered(text)
+                number_token(text)
             } else if first == b'"' {
-                quoted(alloc, rest)
+                string_token(alloc, rest)
             } else if first == b'\\' {
-                escaped(alloc, rest)
+                escaped_name(alloc, rest)
             } else if first == b'$' {
-                system(alloc, text)
+                system_name(alloc, text)
             } else if first == b'`' {
                 Ok((Lexeme::Directive, rest))
             } else {
-                signed(alloc, text)
+                sign_token(alloc, text)
             }
         }
     }
 }
 
-/// As `lexeme`, equal to the function on lists.
+/// As [`lexeme`], by a contract that is one equation.
 #[tactic(auto, unfolding(crate::specs::Reading::lexeme_at))]
 fn lexeme_at<'a>(alloc: Global, text: &'a [u8]) -> Result<(Lexeme, &'a [u8]), LexemeFault>
     ensures { Gives (λ r. (r.0, r.1.now)) result (lexeme_at text.now) }
@@ -85,17 +85,18 @@ fn lexeme_at<'a>(alloc: Global, text: &'a [u8]) -> Result<(Lexeme, &'a [u8]), Le
                 return Ok((Lexeme::Blank, rest));
             }
             if begins_name(*first) {
-                return named(alloc, text);
+                return name_token(alloc, text);
             }
             if opens_skip(text) {
-                return skipped(text);
+                return skipped_lexeme(text);
             }
-            marked(alloc, text)
+            other_lexeme(alloc, text)
         }
     }
 }
 
-/// The lexeme at the front of a text that is taken, and the bytes behind it.
+/// The lexeme at the front of a text that is taken, and the bytes after it. Every refusal but out of memory is exactly the
+/// fault that stands there.
 pub fn lexeme<'a>(alloc: Global, text: &'a [u8]) -> Result<(Lexeme, &'a [u8]), LexemeFault>
     requires { 0 < length text.now }
     ensures found { IfOk result (λ r. Begins text.now (Ok (r.0, r.1.now))) }
@@ -105,7 +106,7 @@ pub fn lexeme<'a>(alloc: Global, text: &'a [u8]) -> Result<(Lexeme, &'a [u8]), L
     lexeme_at(alloc, text)
 }
 
-/// The string that a text goes on with behind its first quote, not taken.
+/// The string that a text goes on with after its first quote, not taken.
 #[tactic(auto, unfolding(crate::specs::Reading::passed_string))]
 fn passed_string<'a>(text: &'a [u8]) -> Result<(Passed, &'a [u8]), OpenFault>
     ensures { Shows (λ r. (r.0, r.1.now)) result (passed_string text.now) }
@@ -121,13 +122,13 @@ fn passed_string<'a>(text: &'a [u8]) -> Result<(Passed, &'a [u8]), OpenFault>
 fn passed_skip<'a>(text: &'a [u8]) -> Result<(Passed, &'a [u8]), OpenFault>
     ensures { Shows (λ r. (r.0, r.1.now)) result (passed_skip text.now) }
 {
-    match behind_skip(text) {
+    match after_skip(text) {
         Some(rest) => Ok((Passed::Text, rest)),
         None => Err(OpenFault::Comment),
     }
 }
 
-/// As `passed`, equal to the function on lists.
+/// As [`passed`], by a contract that is one equation.
 #[tactic(auto, unfolding(crate::specs::Reading::passed_at))]
 fn passed_at<'a>(text: &'a [u8]) -> Result<(Passed, &'a [u8]), OpenFault>
     ensures { Shows (λ r. (r.0, r.1.now)) result (passed_at text.now) }
@@ -153,7 +154,8 @@ fn passed_at<'a>(text: &'a [u8]) -> Result<(Passed, &'a [u8]), OpenFault>
     }
 }
 
-/// What stands at the front of a text that is not taken, and the bytes behind it.
+/// What stands at the front of a text that is not taken, and the bytes after it. A refusal is exactly the fault that stands
+/// there. No memory is taken.
 pub fn passed<'a>(text: &'a [u8]) -> Result<(Passed, &'a [u8]), OpenFault>
     requires { 0 < length text.now }
     ensures found { IfOk result (λ r. Passes text.now (Ok (r.0, r.1.now))) }

@@ -2,7 +2,7 @@
 
 ghost use Rattle.std.specs.Prelude.{◌≡◌, [], ◌∷◌, ◌≤◌, length};
 ghost use Rattle.vf_lexeme.specs.Signs.{is_sign};
-ghost use Rattle.vf_lexeme.specs.Reading.{Gives, short_length, sign_length, signed};
+ghost use Rattle.vf_lexeme.specs.Reading.{Gives, short_length, sign_length, sign_token};
 
 use crate::names::text_of;
 use crate::{Lexeme, LexemeFault, TokenKind};
@@ -106,9 +106,12 @@ fn sign_length(text: &[u8]) -> usize
 }
 
 /// The longest sign at the front of a text.
-#[tactic(auto, unfolding(crate::specs::Reading::signed))]
-pub(crate) fn signed<'a>(alloc: Global, text: &'a [u8]) -> Result<(Lexeme, &'a [u8]), LexemeFault>
-    ensures { Gives (λ r. (r.0, r.1.now)) result (signed text.now) }
+#[tactic(auto, unfolding(crate::specs::Reading::sign_token))]
+pub(crate) fn sign_token<'a>(
+    alloc: Global,
+    text: &'a [u8],
+) -> Result<(Lexeme, &'a [u8]), LexemeFault>
+    ensures { Gives (λ r. (r.0, r.1.now)) result (sign_token text.now) }
 {
     let length = sign_length(text);
     if length == 0 {

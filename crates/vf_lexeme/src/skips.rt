@@ -1,21 +1,19 @@
-//! Comments and attributes, which are no tokens.
+//! Comments and attributes, which are not tokens.
 
-ghost use Rattle.std.specs.Prelude.{◌≡◌};
+ghost use Rattle.std.specs.Prelude.{◌≡◌, ◌≤◌, length};
 ghost use Rattle.std.specs.Option.{option_map};
-ghost use Rattle.vf_lexeme.specs.Reading.{begins_with, opens_skip, after_star, behind_star, behind_skip};
+ghost use Rattle.vf_lexeme.specs.Bytes.{after_line};
+ghost use Rattle.vf_lexeme.specs.Reading.{opens_skip, after_close, after_first_close, after_skip};
 
 use crate::classes::Class;
-use vf_number::ByteClass;
+use vf_number::{ByteClass, begins_with};
 
-/// Whether the text begins with the byte.
-#[tactic(auto, unfolding(crate::specs::Reading::begins_with))]
-fn begins_with(byte: u8, text: &[u8]) -> bool
-    ensures { result ≡ begins_with byte text.now }
+/// The text from the end of its first line on.
+pub fn after_line(text: &[u8]) -> &[u8]
+    ensures rest { result.now ≡ after_line text.now }
+    ensures within { length result.now ≤ length text.now }
 {
-    match text {
-        [] => false,
-        [first, ..] => *first == byte,
-    }
+    Class::Line.skip(text)
 }
 
 /// Whether a comment (clause 3.3) or an attribute (clause 3.8) begins the text.
@@ -38,10 +36,10 @@ pub(crate) fn opens_skip(text: &[u8]) -> bool
     }
 }
 
-/// The bytes behind a `*` and this byte, where they stand in front.
-#[tactic(auto, unfolding(crate::specs::Reading::after_star))]
-fn after_star(close: u8, text: &[u8]) -> Option<&[u8]>
-    ensures { option_map (λ rest. rest.now) result ≡ after_star close text.now }
+/// The bytes after a `*` and this byte, where the text begins with these two.
+#[tactic(auto, unfolding(crate::specs::Reading::after_close))]
+fn after_close(close: u8, text: &[u8]) -> Option<&[u8]>
+    ensures { option_map (λ rest. rest.now) result ≡ after_close close text.now }
 {
     match text {
         [] => None,
@@ -55,37 +53,36 @@ fn after_star(close: u8, text: &[u8]) -> Option<&[u8]>
     }
 }
 
-/// The bytes behind the first `*` that this byte follows, and behind that byte.
-fn behind_star(close: u8, text: &[u8]) -> Option<&[u8]>
-    ensures { option_map (λ rest. rest.now) result ≡ behind_star close text.now }
+/// The bytes after the first `*` with this byte after it.
+fn after_first_close(close: u8, text: &[u8]) -> Option<&[u8]>
+    ensures { option_map (λ rest. rest.now) result ≡ after_first_close close text.now }
 {
     let mut rest = text;
-    while let Some((_, after)) = rest.split_first() {
-        if let Some(behind) = after_star(close, rest) {
-            return Some(behind);
+    while let Some((_, more)) = rest.split_first() {
+        if let Some(after) = after_close(close, rest) {
+            return Some(after);
         }
-        rest = after;
+        rest = more;
     }
     None
 }
 
-/// The bytes behind the comment or attribute that begins the text; None where it does not end.
-#[tactic(auto, unfolding(crate::specs::Reading::behind_skip))]
-pub(crate) fn behind_skip(text: &[u8]) -> Option<&[u8]>
-    ensures { option_map (λ rest. rest.now) result ≡ behind_skip text.now }
+/// The bytes after the comment or attribute that begins the text; None where it does not end.
+#[tactic(auto, unfolding(crate::specs::Reading::after_skip))]
+pub(crate) fn after_skip(text: &[u8]) -> Option<&[u8]>
+    ensures { option_map (λ rest. rest.now) result ≡ after_skip text.now }
 {
     match text {
         [] => None,
         [_] => None,
         [first, second, rest @ ..] => {
             if *second == b'/' {
-                let (_, rest) = Class::Line.split(rest);
-                return Some(rest);
+                return Some(after_line(rest));
             }
             if *first == b'/' {
-                return behind_star(b'/', rest);
+                return after_first_close(b'/', rest);
             }
-            behind_star(b')', rest)
+            after_first_close(b')', rest)
         }
     }
 }

@@ -3,7 +3,7 @@
 ghost use Rattle.std.specs.Prelude.{◌≡◌, ◌≤◌, ◌==◌, ◌&&◌, not, true, false, [], ◌∷◌, length, Ok};
 ghost use Rattle.std.specs.Option.{option_map};
 ghost use Rattle.vf_lexeme.specs.Strings.{is_octal, octal_byte};
-ghost use Rattle.vf_lexeme.specs.Reading.{Gives, inside_at, octal_code, escape_code, piece, decoded, quoted};
+ghost use Rattle.vf_lexeme.specs.Reading.{Gives, inside_at, octal_code, escape_code, piece, decoded, string_token};
 
 use crate::{Lexeme, LexemeFault, TokenKind};
 use std::alloc::Global;
@@ -16,14 +16,14 @@ fn closes(escaped: bool, byte: u8) -> bool
     !escaped && byte == b'"'
 }
 
-/// Whether a byte of a string takes the next along.
+/// Whether a byte of a string makes the next one part of an escape.
 fn escapes(escaped: bool, byte: u8) -> bool
     ensures { result ≡ (not escaped && byte == 92) }
 {
     !escaped && byte == b'\\'
 }
 
-/// What stands between the quotes of a string, and the bytes behind it, in a text that begins behind the first quote;
+/// What stands between the quotes of a string, and the bytes after it, in a text that begins after the first quote;
 /// None where no quote ends it on its line.
 pub(crate) fn inside<'a>(text: &'a [u8]) -> Option<(&'a [u8], &'a [u8])>
     ensures { option_map (λ r. (r.0.now, r.1.now)) result ≡ inside_at false text.now }
@@ -70,7 +70,7 @@ fn octal_triple(first: u8, second: u8, third: u8) -> u8
     (value % 256) as u8
 }
 
-/// The byte that one to three octal digits write, as many as stand there, and how many stand behind the first.
+/// The byte that one to three octal digits write, as many as stand there, and how many stand after the first.
 #[tactic(auto, unfolding(crate::specs::Reading::octal_code))]
 fn octal_code(first: u8, rest: &[u8]) -> (u8, usize)
     requires { is_octal first ≡ true }
@@ -97,7 +97,7 @@ fn octal_code(first: u8, rest: &[u8]) -> (u8, usize)
     }
 }
 
-/// The byte that stands for what follows a `\`, and how many bytes behind the first write it.
+/// The byte that stands for what follows a `\`, and how many bytes after the first write it.
 #[tactic(auto, unfolding(crate::specs::Reading::escape_code))]
 fn escape_code(first: u8, rest: &[u8]) -> (u8, usize)
     ensures value { result ≡ escape_code first rest.now }
@@ -115,7 +115,7 @@ fn escape_code(first: u8, rest: &[u8]) -> (u8, usize)
     (first, 0)
 }
 
-/// The first byte of what a string's text stands for, and how many bytes behind the first write it.
+/// The first byte of what a string's text stands for, and how many bytes after the first write it.
 #[tactic(auto, unfolding(crate::specs::Reading::piece))]
 fn piece(first: u8, rest: &[u8]) -> (u8, usize)
     ensures value { result ≡ piece first rest.now }
@@ -127,8 +127,8 @@ fn piece(first: u8, rest: &[u8]) -> (u8, usize)
             if first != b'\\' {
                 return (first, 0);
             }
-            let (byte, behind) = escape_code(*next, more);
-            (byte, behind + 1)
+            let (byte, count) = escape_code(*next, more);
+            (byte, count + 1)
         }
     }
 }
@@ -139,18 +139,21 @@ fn decoded(alloc: Global, inside: &[u8]) -> Result<Text, LexemeFault>
 {
     let mut value = Vec::new(alloc);
     let mut rest = inside;
-    while let Some((first, after)) = rest.split_first() {
-        let (byte, behind) = piece(*first, after);
+    while let Some((first, more)) = rest.split_first() {
+        let (byte, count) = piece(*first, more);
         value.push(byte)?;
-        rest = after.split_at(behind).1;
+        rest = more.split_at(count).1;
     }
     Ok(Text::new(value))
 }
 
-/// The string behind its first quote.
-#[tactic(auto, unfolding(crate::specs::Reading::quoted))]
-pub(crate) fn quoted<'a>(alloc: Global, text: &'a [u8]) -> Result<(Lexeme, &'a [u8]), LexemeFault>
-    ensures { Gives (λ r. (r.0, r.1.now)) result (quoted text.now) }
+/// The string after its first quote.
+#[tactic(auto, unfolding(crate::specs::Reading::string_token))]
+pub(crate) fn string_token<'a>(
+    alloc: Global,
+    text: &'a [u8],
+) -> Result<(Lexeme, &'a [u8]), LexemeFault>
+    ensures { Gives (λ r. (r.0, r.1.now)) result (string_token text.now) }
 {
     let Some((inside, rest)) = inside(text) else {
         return Err(LexemeFault::OpenString);

@@ -5,13 +5,13 @@ use Rattle.std.proofs.lemmas.Bool.{cases_Bool, and_parts, eqb-true, eqb-false, n
 use Rattle.std.proofs.lemmas.List.{append-nil}
 use Rattle.vf_lexeme.specs.Bytes.{is_no_blank, is_no_newline, Ends}
 use Rattle.vf_macro.specs.MacroText.{IsJoint, IsJoined, Straddles, Counts, nothing, joined, plain}
-use Rattle.vf_macro.specs.Scanning.{is_byte, behind_class, behind_end, behind_joint}
+use Rattle.vf_macro.specs.Scanning.{is_byte, after_class, after_end, after_joint}
 
 -- ---- the byte at the front
 
-pub class_some : (class : ℕ → Bool) (bytes rest : List ℕ) → behind_class class bytes ≡ Some rest
+pub class_some : (class : ℕ → Bool) (bytes rest : List ℕ) → after_class class bytes ≡ Some rest
     → (first : ℕ) × (bytes ≡ first ∷ rest) × (class first ≡ true)
-unfolding behind_class
+unfolding after_class
 class_some class [] rest e = absurd cc
 class_some class (first ∷ more) rest e = elim (cases_Bool (class first)) [
   | inl is ↦
@@ -21,93 +21,93 @@ class_some class (first ∷ more) rest e = elim (cases_Bool (class first)) [
   | inr other ↦ let none : None ≡ Some rest = rw other at e in absurd cc
 ]
 
-pub class_none : (class : ℕ → Bool) (bytes : List ℕ) → behind_class class bytes ≡ None → Ends class bytes
-unfolding behind_class
+pub class_none : (class : ℕ → Bool) (bytes : List ℕ) → after_class class bytes ≡ None → Ends class bytes
+unfolding after_class
 class_none class [] e = tt
 class_none class (first ∷ more) e = elim (cases_Bool (class first)) [
   | inl is ↦ let some : Some more ≡ None = rw is at e in absurd cc
   | inr other ↦ other
 ]
 
-pub class_at : (class : ℕ → Bool) (first : ℕ) (rest : List ℕ) → class first ≡ true → behind_class class (first ∷ rest) ≡ Some rest
-unfolding behind_class
+pub class_at : (class : ℕ → Bool) (first : ℕ) (rest : List ℕ) → class first ≡ true → after_class class (first ∷ rest) ≡ Some rest
+unfolding after_class
 class_at class first rest is = rw is refl
 
-pub class_ends : (class : ℕ → Bool) (bytes : List ℕ) → Ends class bytes → behind_class class bytes ≡ None
-unfolding behind_class
+pub class_ends : (class : ℕ → Bool) (bytes : List ℕ) → Ends class bytes → after_class class bytes ≡ None
+unfolding after_class
 class_ends class [] ends = refl
 class_ends class (first ∷ rest) ends = rw ends refl
 
 -- ---- joints
 
-end_sound : (bytes behind : List ℕ) → behind_end bytes ≡ Some behind
-    → (bytes ≡ 10 ∷ behind) ⊎ (bytes ≡ 13 ∷ 10 ∷ behind)
-unfolding behind_end
-end_sound [] behind e = absurd cc
-end_sound (first ∷ rest) behind e = elim (cases_Bool (eqb first 10)) [
+end_sound : (bytes after : List ℕ) → after_end bytes ≡ Some after
+    → (bytes ≡ 10 ∷ after) ⊎ (bytes ≡ 13 ∷ 10 ∷ after)
+unfolding after_end
+end_sound [] after e = absurd cc
+end_sound (first ∷ rest) after e = elim (cases_Bool (eqb first 10)) [
   | inl is ↦
-      let same : Some rest ≡ Some behind = rw is at e in
+      let same : Some rest ≡ Some after = rw is at e in
       let first_is = eqb-true first 10 is in
       inl cc
   | inr other ↦ elim (cases_Bool (eqb first 13)) [
     | inl is ↦
-        let c = class_some (is_byte 10) rest behind (rw (other, is) at e) in
+        let c = class_some (is_byte 10) rest after (rw (other, is) at e) in
         let first_is = eqb-true first 13 is in
         let second_is = eqb-true c.0 10 c.2 in
         let rest_is = c.1 in
         inr cc
-    | inr none ↦ let wrong : None ≡ Some behind = rw (other, none) at e in absurd cc
+    | inr none ↦ let wrong : None ≡ Some after = rw (other, none) at e in absurd cc
   ]
 ]
 
-pub joint_sound : (bytes behind : List ℕ) → behind_joint bytes ≡ Some behind → IsJoined bytes behind
-unfolding behind_joint
-joint_sound [] behind e = absurd cc
-joint_sound (first ∷ rest) behind e = elim (cases_Bool (eqb first 92)) [
+pub joint_sound : (bytes after : List ℕ) → after_joint bytes ≡ Some after → IsJoined bytes after
+unfolding after_joint
+joint_sound [] after e = absurd cc
+joint_sound (first ∷ rest) after e = elim (cases_Bool (eqb first 92)) [
   | inl is ↦
       let first_is = eqb-true first 92 is in
-      elim (end_sound rest behind (rw is at e)) [
+      elim (end_sound rest after (rw is at e)) [
         | inl rest_is ↦ record { joint = 92 ∷ 10 ∷ []; is = inl refl; parts = cc }
         | inr rest_is ↦ record { joint = 92 ∷ 13 ∷ 10 ∷ []; is = inr refl; parts = cc }
       ]
-  | inr other ↦ let wrong : None ≡ Some behind = rw other at e in absurd cc
+  | inr other ↦ let wrong : None ≡ Some after = rw other at e in absurd cc
 ]
 
-joint_at : (joint behind : List ℕ) → IsJoint joint → behind_joint (joint ++ behind) ≡ Some behind
-unfolding behind_joint behind_end behind_class
-joint_at joint behind (inl e) = rw e refl
-joint_at joint behind (inr e) = rw e refl
+joint_at : (joint after : List ℕ) → IsJoint joint → after_joint (joint ++ after) ≡ Some after
+unfolding after_joint after_end after_class
+joint_at joint after (inl e) = rw e refl
+joint_at joint after (inr e) = rw e refl
 
-pub joined_at : (bytes behind : List ℕ) → IsJoined bytes behind → behind_joint bytes ≡ Some behind
-joined_at bytes behind j = ap behind_joint j.parts ∙ joint_at j.joint behind j.is
+pub joined_at : (bytes after : List ℕ) → IsJoined bytes after → after_joint bytes ≡ Some after
+joined_at bytes after j = ap after_joint j.parts ∙ joint_at j.joint after j.is
 
-pub no_joint : (bytes behind : List ℕ) → behind_joint bytes ≡ None → IsJoined bytes behind → ⊥
-no_joint bytes behind e j = let clash : None ≡ Some behind = sym e ∙ joined_at bytes behind j in cc
+pub no_joint : (bytes after : List ℕ) → after_joint bytes ≡ None → IsJoined bytes after → ⊥
+no_joint bytes after e j = let clash : None ≡ Some after = sym e ∙ joined_at bytes after j in cc
 
 -- where no joint can begin, none is found
-pub joint_none : (bytes : List ℕ) (o : Option (List ℕ)) → ((behind : List ℕ) → IsJoined bytes behind → ⊥) → behind_joint bytes ≡ o
+pub joint_none : (bytes : List ℕ) (o : Option (List ℕ)) → ((after : List ℕ) → IsJoined bytes after → ⊥) → after_joint bytes ≡ o
     → o ≡ None
 joint_none bytes None h e = refl
-joint_none bytes (Some behind) h e = absurd (h behind (joint_sound bytes behind e))
+joint_none bytes (Some after) h e = absurd (h after (joint_sound bytes after e))
 
-pub joint_other : (first : ℕ) (rest : List ℕ) → first ≢ 92 → behind_joint (first ∷ rest) ≡ None
-unfolding behind_joint
+pub joint_other : (first : ℕ) (rest : List ℕ) → first ≢ 92 → after_joint (first ∷ rest) ≡ None
+unfolding after_joint
 joint_other first rest other = rw (ne_eqb first 92 other) refl
 
 pub some_joint : (joint : List ℕ) → IsJoint joint → 0 < length joint
 some_joint joint (inl e) = rw e (omega arith)
 some_joint joint (inr e) = rw e (omega arith)
 
-pub joined_shorter : (bytes behind : List ℕ) → IsJoined bytes behind → length behind < length bytes
-joined_shorter bytes behind j = omega
-    (arith, ap length j.parts, length-append j.joint behind, some_joint j.joint j.is)
+pub joined_shorter : (bytes after : List ℕ) → IsJoined bytes after → length after < length bytes
+joined_shorter bytes after j = omega
+    (arith, ap length j.parts, length-append j.joint after, some_joint j.joint j.is)
 
-pub joint_of_star : (rest : List ℕ) → behind_joint (42 ∷ rest) ≡ None
-unfolding behind_joint
+pub joint_of_star : (rest : List ℕ) → after_joint (42 ∷ rest) ≡ None
+unfolding after_joint
 joint_of_star rest = refl
 
-pub joint_of_none : behind_joint [] ≡ None
-unfolding behind_joint
+pub joint_of_none : after_joint [] ≡ None
+unfolding after_joint
 joint_of_none = refl
 
 -- ---- a joint across a border
@@ -115,9 +115,9 @@ joint_of_none = refl
 -- a joint begins the first run of bytes and ends in the second
 record Crosses (front rest : List ℕ) : Type 0 where
   tail : List ℕ
-  behind : List ℕ
+  after : List ℕ
   some_tail : 0 < length tail
-  rest_is : rest ≡ tail ++ behind
+  rest_is : rest ≡ tail ++ after
   is : IsJoint (front ++ tail)
 
 straddles_by : (first : ℕ) (front rest : List ℕ) (s : Straddles (first ∷ front) rest) (before : List ℕ) → s.before ≡ before
@@ -126,7 +126,7 @@ straddles_by first front rest s [] e =
     let whole : first ∷ front ≡ s.head = rw e at s.front_is in
     inl (record {
       tail = s.tail;
-      behind = s.behind;
+      after = s.after;
       some_tail = s.some_tail;
       rest_is = s.rest_is;
       is = subst (λ h. IsJoint (h ++ s.tail)) (sym whole) s.is;
@@ -137,7 +137,7 @@ straddles_by first front rest s (b ∷ before) e =
       before = before;
       head = s.head;
       tail = s.tail;
-      behind = s.behind;
+      after = s.after;
       some_head = s.some_head;
       some_tail = s.some_tail;
       front_is = cc;
@@ -157,7 +157,7 @@ straddles_more before front rest s = record {
   before = before ++ s.before;
   head = s.head;
   tail = s.tail;
-  behind = s.behind;
+  after = s.after;
   some_head = s.some_head;
   some_tail = s.some_tail;
   front_is = ap (λ t. before ++ t) s.front_is ∙ sym (append_assoc before s.before s.head);
@@ -165,18 +165,18 @@ straddles_more before front rest s = record {
   is = s.is;
 }
 
-crosses_joined : (front rest : List ℕ) (c : Crosses front rest) → IsJoined (front ++ rest) c.behind
+crosses_joined : (front rest : List ℕ) (c : Crosses front rest) → IsJoined (front ++ rest) c.after
 crosses_joined front rest c = record {
   joint = front ++ c.tail;
   is = c.is;
-  parts = ap (λ t. front ++ t) c.rest_is ∙ sym (append_assoc front c.tail c.behind);
+  parts = ap (λ t. front ++ t) c.rest_is ∙ sym (append_assoc front c.tail c.after);
 }
 
 -- no joint begins here, and none stands across the border further on
-pub straddles_not : (first : ℕ) (front rest : List ℕ) → behind_joint (first ∷ (front ++ rest)) ≡ None
+pub straddles_not : (first : ℕ) (front rest : List ℕ) → after_joint (first ∷ (front ++ rest)) ≡ None
     → (Straddles front rest → ⊥) → Straddles (first ∷ front) rest → ⊥
 straddles_not first front rest e h s = elim (straddles_parts first front rest s) [
-  | inl c ↦ no_joint (first ∷ (front ++ rest)) c.behind e (crosses_joined (first ∷ front) rest c)
+  | inl c ↦ no_joint (first ∷ (front ++ rest)) c.after e (crosses_joined (first ∷ front) rest c)
   | inr later ↦ h later
 ]
 
@@ -216,13 +216,13 @@ straddles_past joint inside rest (inr e) s =
       ]
     ]
 
-over : (head tail behind : List ℕ) → 0 < length head → 0 < length tail → IsJoint (head ++ tail)
-    → Straddles head (tail ++ behind)
-over head tail behind some_head some_tail is = record {
+over : (head tail after : List ℕ) → 0 < length head → 0 < length tail → IsJoint (head ++ tail)
+    → Straddles head (tail ++ after)
+over head tail after some_head some_tail is = record {
   before = [];
   head = head;
   tail = tail;
-  behind = behind;
+  after = after;
   some_head = some_head;
   some_tail = some_tail;
   front_is = refl;
@@ -231,36 +231,36 @@ over head tail behind some_head some_tail is = record {
 }
 
 -- a joint at the front of both runs stands across the border, or whole in the first
-split_short : (front rest behind : List ℕ) → 0 < length front → front ++ rest ≡ 92 ∷ 10 ∷ behind
+split_short : (front rest after : List ℕ) → 0 < length front → front ++ rest ≡ 92 ∷ 10 ∷ after
     → Straddles front rest ⊎ ((more : List ℕ) × IsJoined front more)
-split_short [] rest behind some e = absurd (omega (arith, some))
-split_short (a ∷ []) rest behind some e =
+split_short [] rest after some e = absurd (omega (arith, some))
+split_short (a ∷ []) rest after some e =
     let a_is : a ≡ 92 = cc in
-    let rest_is : rest ≡ (10 ∷ []) ++ behind = cc in
-    inl (rw (a_is, rest_is) (over (92 ∷ []) (10 ∷ []) behind (omega arith) (omega arith) (inl refl)))
-split_short (a ∷ b ∷ more) rest behind some e =
+    let rest_is : rest ≡ (10 ∷ []) ++ after = cc in
+    inl (rw (a_is, rest_is) (over (92 ∷ []) (10 ∷ []) after (omega arith) (omega arith) (inl refl)))
+split_short (a ∷ b ∷ more) rest after some e =
     inr (more, record { joint = 92 ∷ 10 ∷ []; is = inl refl; parts = cc })
 
-split_long : (front rest behind : List ℕ) → 0 < length front → front ++ rest ≡ 92 ∷ 13 ∷ 10 ∷ behind
+split_long : (front rest after : List ℕ) → 0 < length front → front ++ rest ≡ 92 ∷ 13 ∷ 10 ∷ after
     → Straddles front rest ⊎ ((more : List ℕ) × IsJoined front more)
-split_long [] rest behind some e = absurd (omega (arith, some))
-split_long (a ∷ []) rest behind some e =
+split_long [] rest after some e = absurd (omega (arith, some))
+split_long (a ∷ []) rest after some e =
     let a_is : a ≡ 92 = cc in
-    let rest_is : rest ≡ (13 ∷ 10 ∷ []) ++ behind = cc in
-    inl (rw (a_is, rest_is) (over (92 ∷ []) (13 ∷ 10 ∷ []) behind (omega arith) (omega arith) (inr refl)))
-split_long (a ∷ b ∷ []) rest behind some e =
+    let rest_is : rest ≡ (13 ∷ 10 ∷ []) ++ after = cc in
+    inl (rw (a_is, rest_is) (over (92 ∷ []) (13 ∷ 10 ∷ []) after (omega arith) (omega arith) (inr refl)))
+split_long (a ∷ b ∷ []) rest after some e =
     let a_is : a ≡ 92 = cc in
     let b_is : b ≡ 13 = cc in
-    let rest_is : rest ≡ (10 ∷ []) ++ behind = cc in
-    inl (rw (a_is, b_is, rest_is) (over (92 ∷ 13 ∷ []) (10 ∷ []) behind (omega arith) (omega arith) (inr refl)))
-split_long (a ∷ b ∷ c ∷ more) rest behind some e =
+    let rest_is : rest ≡ (10 ∷ []) ++ after = cc in
+    inl (rw (a_is, b_is, rest_is) (over (92 ∷ 13 ∷ []) (10 ∷ []) after (omega arith) (omega arith) (inr refl)))
+split_long (a ∷ b ∷ c ∷ more) rest after some e =
     inr (more, record { joint = 92 ∷ 13 ∷ 10 ∷ []; is = inr refl; parts = cc })
 
-pub split_joint : (front rest behind : List ℕ) → 0 < length front → IsJoined (front ++ rest) behind
+pub split_joint : (front rest after : List ℕ) → 0 < length front → IsJoined (front ++ rest) after
     → Straddles front rest ⊎ ((more : List ℕ) × IsJoined front more)
-split_joint front rest behind some j = elim j.is [
-  | inl is ↦ split_short front rest behind some (j.parts ∙ ap (λ t. t ++ behind) is)
-  | inr is ↦ split_long front rest behind some (j.parts ∙ ap (λ t. t ++ behind) is)
+split_joint front rest after some j = elim j.is [
+  | inl is ↦ split_short front rest after some (j.parts ∙ ap (λ t. t ++ after) is)
+  | inr is ↦ split_long front rest after some (j.parts ∙ ap (λ t. t ++ after) is)
 ]
 
 -- no `*` stands in a joint
@@ -285,7 +285,7 @@ no_star front more j = both_ways (list_all is_no_star (front ++ 42 ∷ more)) (s
 star_by : (front rest : List ℕ) (s : Straddles front rest) (tail more : List ℕ) → s.tail ≡ tail → rest ≡ 42 ∷ more → ⊥
 star_by front rest s [] more e is = omega (arith, s.some_tail, ap length e)
 star_by front rest s (b ∷ tail) more e is =
-    let whole : 42 ∷ more ≡ b ∷ (tail ++ s.behind) = sym is ∙ s.rest_is ∙ ap (λ t. t ++ s.behind) e in
+    let whole : 42 ∷ more ≡ b ∷ (tail ++ s.after) = sym is ∙ s.rest_is ∙ ap (λ t. t ++ s.after) e in
     let b_is : b ≡ 42 = cc in
     no_star s.head tail (subst (λ t. IsJoint (s.head ++ t)) (e ∙ ap (λ x. x ∷ tail) b_is) s.is)
 
@@ -294,16 +294,16 @@ straddles_star front more s = star_by front (42 ∷ more) s s.tail more refl ref
 
 -- ---- what bytes count as
 
-joint_first : (bytes behind : List ℕ) → IsJoined bytes behind → (more : List ℕ) × (bytes ≡ 92 ∷ more)
-joint_first bytes behind j = elim j.is [
-  | inl is ↦ (10 ∷ behind, j.parts ∙ ap (λ t. t ++ behind) is)
-  | inr is ↦ (13 ∷ 10 ∷ behind, j.parts ∙ ap (λ t. t ++ behind) is)
+joint_first : (bytes after : List ℕ) → IsJoined bytes after → (more : List ℕ) × (bytes ≡ 92 ∷ more)
+joint_first bytes after j = elim j.is [
+  | inl is ↦ (10 ∷ after, j.parts ∙ ap (λ t. t ++ after) is)
+  | inr is ↦ (13 ∷ 10 ∷ after, j.parts ∙ ap (λ t. t ++ after) is)
 ]
 
 newline_first : (bytes text rest : List ℕ) → Counts bytes text → bytes ≡ 10 ∷ rest → ⊥
 newline_first _ _ rest nothing e = cc
-newline_first bytes _ rest (joined {behind} j c) e =
-    let f = joint_first bytes behind j in
+newline_first bytes _ rest (joined {after} j c) e =
+    let f = joint_first bytes after j in
     let clash : 92 ∷ f.0 ≡ 10 ∷ rest = sym f.1 ∙ e in
     cc
 newline_first _ _ rest (plain other c) e = other cc
@@ -314,63 +314,63 @@ tails a b one two e = cc
 pub heads : (a b : ℕ) (one two : List ℕ) → a ∷ one ≡ b ∷ two → a ≡ b
 heads a b one two e = cc
 
-return_joint : (bytes behind rest : List ℕ) → IsJoined bytes behind → bytes ≡ 13 ∷ rest → ⊥
-return_joint bytes behind rest j e =
-    let f = joint_first bytes behind j in
+return_joint : (bytes after rest : List ℕ) → IsJoined bytes after → bytes ≡ 13 ∷ rest → ⊥
+return_joint bytes after rest j e =
+    let f = joint_first bytes after j in
     eqb-false 92 13 refl (heads 92 13 f.0 rest (sym f.1 ∙ e))
 
 return_first : (bytes text more rest : List ℕ) → Counts bytes text → bytes ≡ 13 ∷ more → more ≡ 10 ∷ rest → ⊥
 return_first _ _ more rest nothing e is = cc
-return_first bytes _ more rest (joined {behind} j c) e is = return_joint bytes behind more j e
-return_first _ _ more rest (plain {byte} {behind} {text} other c) e is =
-    newline_first behind text rest c (tails byte 13 behind more e ∙ is)
+return_first bytes _ more rest (joined {after} j c) e is = return_joint bytes after more j e
+return_first _ _ more rest (plain {byte} {after} {text} other c) e is =
+    newline_first after text rest c (tails byte 13 after more e ∙ is)
 
-pub plain_joint : (byte : ℕ) (rest text behind : List ℕ) → Counts rest text → IsJoined (byte ∷ rest) behind → ⊥
-plain_joint byte rest text behind c j = elim j.is [
+pub plain_joint : (byte : ℕ) (rest text after : List ℕ) → Counts rest text → IsJoined (byte ∷ rest) after → ⊥
+plain_joint byte rest text after c j = elim j.is [
   | inl is ↦
-      let whole : byte ∷ rest ≡ 92 ∷ 10 ∷ behind = j.parts ∙ ap (λ t. t ++ behind) is in
-      newline_first rest text behind c (tails byte 92 rest (10 ∷ behind) whole)
+      let whole : byte ∷ rest ≡ 92 ∷ 10 ∷ after = j.parts ∙ ap (λ t. t ++ after) is in
+      newline_first rest text after c (tails byte 92 rest (10 ∷ after) whole)
   | inr is ↦
-      let whole : byte ∷ rest ≡ 92 ∷ 13 ∷ 10 ∷ behind = j.parts ∙ ap (λ t. t ++ behind) is in
-      return_first rest text (10 ∷ behind) behind c (tails byte 92 rest (13 ∷ 10 ∷ behind) whole) refl
+      let whole : byte ∷ rest ≡ 92 ∷ 13 ∷ 10 ∷ after = j.parts ∙ ap (λ t. t ++ after) is in
+      return_first rest text (10 ∷ after) after c (tails byte 92 rest (13 ∷ 10 ∷ after) whole) refl
 ]
 
 -- what counts, by what follows a joint at the front
 abbrev pub Counted : Option (List ℕ) → List ℕ → List ℕ → Type 0
-Counted (Some behind) bytes text = (more : List ℕ) × Counts behind more × (text ≡ 32 ∷ more)
+Counted (Some after) bytes text = (more : List ℕ) × Counts after more × (text ≡ 32 ∷ more)
 Counted None [] text = text ≡ []
 Counted None (first ∷ rest) text = (first ≢ 10) × (more : List ℕ) × Counts rest more × (text ≡ first ∷ more)
 
-pub counted : (bytes text : List ℕ) → Counts bytes text → Counted (behind_joint bytes) bytes text
+pub counted : (bytes text : List ℕ) → Counts bytes text → Counted (after_joint bytes) bytes text
 counted _ _ nothing = rw joint_of_none refl
-counted bytes _ (joined {behind} {text} j c) = rw (joined_at bytes behind j) (text, c, refl)
-counted _ _ (plain {byte} {behind} {text} other c) =
-    rw (joint_none (byte ∷ behind) _ (λ b j. plain_joint byte behind text b c j) refl) (other, text, c, refl)
+counted bytes _ (joined {after} {text} j c) = rw (joined_at bytes after j) (text, c, refl)
+counted _ _ (plain {byte} {after} {text} other c) =
+    rw (joint_none (byte ∷ after) _ (λ b j. plain_joint byte after text b c j) refl) (other, text, c, refl)
 
 pub counts_once : (bytes one two : List ℕ) → Counts bytes one → Counts bytes two → one ≡ two
 counts_once _ _ two nothing d =
     let i : Counted None [] two = rw joint_of_none at (counted [] two d) in
     sym i
-counts_once bytes _ two (joined {behind} {text} j c) d =
-    let i : Counted (Some behind) bytes two = rw (joined_at bytes behind j) at (counted bytes two d) in
-    ap (λ (t : List ℕ). 32 ∷ t) (counts_once behind text i.0 c i.1) ∙ sym i.2
-counts_once _ _ two (plain {byte} {behind} {text} other c) d =
-    let none = joint_none (byte ∷ behind) (behind_joint (byte ∷ behind)) (λ b j. plain_joint byte behind text b c j) refl in
-    let i : Counted None (byte ∷ behind) two = rw none at (counted (byte ∷ behind) two d) in
-    ap (λ (t : List ℕ). byte ∷ t) (counts_once behind text i.1 c i.2) ∙ sym i.3
+counts_once bytes _ two (joined {after} {text} j c) d =
+    let i : Counted (Some after) bytes two = rw (joined_at bytes after j) at (counted bytes two d) in
+    ap (λ (t : List ℕ). 32 ∷ t) (counts_once after text i.0 c i.1) ∙ sym i.2
+counts_once _ _ two (plain {byte} {after} {text} other c) d =
+    let none = joint_none (byte ∷ after) (after_joint (byte ∷ after)) (λ b j. plain_joint byte after text b c j) refl in
+    let i : Counted None (byte ∷ after) two = rw none at (counted (byte ∷ after) two d) in
+    ap (λ (t : List ℕ). byte ∷ t) (counts_once after text i.1 c i.2) ∙ sym i.3
 
-pub joined_more : (bytes behind more : List ℕ) → IsJoined bytes behind → IsJoined (bytes ++ more) (behind ++ more)
-joined_more bytes behind more j = record {
+pub joined_more : (bytes after more : List ℕ) → IsJoined bytes after → IsJoined (bytes ++ more) (after ++ more)
+joined_more bytes after more j = record {
   joint = j.joint;
   is = j.is;
-  parts = ap (λ t. t ++ more) j.parts ∙ append_assoc j.joint behind more;
+  parts = ap (λ t. t ++ more) j.parts ∙ append_assoc j.joint after more;
 }
 
 pub counts_append : (front text back more : List ℕ) → Counts front text → Counts back more → Counts (front ++ back) (text ++ more)
 counts_append _ _ back more nothing d = d
-counts_append front _ back more (joined {behind} {text} j c) d =
-    joined (joined_more front behind back j) (counts_append behind text back more c d)
-counts_append _ _ back more (plain {byte} {behind} {text} other c) d = plain other (counts_append behind text back more c d)
+counts_append front _ back more (joined {after} {text} j c) d =
+    joined (joined_more front after back j) (counts_append after text back more c d)
+counts_append _ _ back more (plain {byte} {after} {text} other c) d = plain other (counts_append after text back more c d)
 
 pub no_newline : (byte : ℕ) → is_no_newline byte ≡ true → byte ≢ 10
 no_newline byte h = eqb-false byte 10 (not-true (eqb byte 10) h)
@@ -386,21 +386,21 @@ counts_line (byte ∷ rest) h =
     plain (no_newline byte p.0) (counts_line rest p.1)
 
 -- no joint stands in what has no blank
-pub joint_blank : (bytes behind : List ℕ) → list_all is_no_blank bytes ≡ true → IsJoined bytes behind → ⊥
-joint_blank bytes behind h j = elim j.is [
+pub joint_blank : (bytes after : List ℕ) → list_all is_no_blank bytes ≡ true → IsJoined bytes after → ⊥
+joint_blank bytes after h j = elim j.is [
   | inl is ↦
-      let whole : bytes ≡ 92 ∷ 10 ∷ behind = j.parts ∙ ap (λ t. t ++ behind) is in
+      let whole : bytes ≡ 92 ∷ 10 ∷ after = j.parts ∙ ap (λ t. t ++ after) is in
       let wrong : false ≡ true = sym (ap (list_all is_no_blank) whole) ∙ h in
       cc
   | inr is ↦
-      let whole : bytes ≡ 92 ∷ 13 ∷ 10 ∷ behind = j.parts ∙ ap (λ t. t ++ behind) is in
+      let whole : bytes ≡ 92 ∷ 13 ∷ 10 ∷ after = j.parts ∙ ap (λ t. t ++ after) is in
       let wrong : false ≡ true = sym (ap (list_all is_no_blank) whole) ∙ h in
       cc
 ]
 
 -- ---- counting from the front
 
--- the rest counts as something, and behind the text so far that is what the bytes count as
+-- the rest counts as something, and after the text so far that is what the bytes count as
 pub record CountsOn (bytes text rest : List ℕ) : Type 0 where
   pub some : (more : List ℕ) × Counts rest more
   pub carries : (more : List ℕ) → Counts rest more → Counts bytes (text ++ more)
@@ -408,17 +408,17 @@ pub record CountsOn (bytes text rest : List ℕ) : Type 0 where
 pub counts_start : (bytes : List ℕ) → (text : List ℕ) × Counts bytes text → CountsOn bytes [] bytes
 counts_start bytes some = record { some = some; carries = λ more c. c }
 
-pub counts_joint : (bytes text rest behind : List ℕ) → behind_joint rest ≡ Some behind → CountsOn bytes text rest
-    → CountsOn bytes (text ++ 32 ∷ []) behind
-counts_joint bytes text rest behind e on =
-    let i : Counted (Some behind) rest on.some.0 = rw e at (counted rest on.some.0 on.some.1) in
+pub counts_joint : (bytes text rest after : List ℕ) → after_joint rest ≡ Some after → CountsOn bytes text rest
+    → CountsOn bytes (text ++ 32 ∷ []) after
+counts_joint bytes text rest after e on =
+    let i : Counted (Some after) rest on.some.0 = rw e at (counted rest on.some.0 on.some.1) in
     record {
       some = (i.0, i.1);
       carries = λ more c. subst (Counts bytes) (sym (append_assoc text (32 ∷ []) more))
-          (on.carries (32 ∷ more) (joined (joint_sound rest behind e) c));
+          (on.carries (32 ∷ more) (joined (joint_sound rest after e) c));
     }
 
-counts_byte_at : (bytes text rest : List ℕ) (first : ℕ) → behind_joint (first ∷ rest) ≡ None → CountsOn bytes text (first ∷ rest)
+counts_byte_at : (bytes text rest : List ℕ) (first : ℕ) → after_joint (first ∷ rest) ≡ None → CountsOn bytes text (first ∷ rest)
     → CountsOn bytes (text ++ first ∷ []) rest
 counts_byte_at bytes text rest first e on =
     let i : Counted None (first ∷ rest) on.some.0 = rw e at (counted (first ∷ rest) on.some.0 on.some.1) in
@@ -428,10 +428,10 @@ counts_byte_at bytes text rest first e on =
           (on.carries (first ∷ more) (plain i.0 c));
     }
 
-pub counts_byte : (bytes text whole rest : List ℕ) (first : ℕ) → whole ≡ first ∷ rest → behind_joint whole ≡ None
+pub counts_byte : (bytes text whole rest : List ℕ) (first : ℕ) → whole ≡ first ∷ rest → after_joint whole ≡ None
     → CountsOn bytes text whole → CountsOn bytes (text ++ first ∷ []) rest
 counts_byte bytes text whole rest first is e on =
-    counts_byte_at bytes text rest first (ap behind_joint (sym is) ∙ e) (subst (CountsOn bytes text) is on)
+    counts_byte_at bytes text rest first (ap after_joint (sym is) ∙ e) (subst (CountsOn bytes text) is on)
 
 counts_none : (text : List ℕ) → Counts [] text → text ≡ []
 counts_none text c = rw joint_of_none at (counted [] text c)

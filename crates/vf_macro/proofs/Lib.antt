@@ -3,4 +3,3 @@ pub mod Counting
 pub mod Insides
 pub mod Parts
 pub mod MacroTexts
-pub mod CallerLemmas

@@ -9,7 +9,7 @@ use Rattle.vf_lexeme.specs.Laws.{PassesOnce, PassesSome}
 use Rattle.vf_lexeme.specs.Strings as strings
 use Rattle.vf_lexeme.specs.Strings.{is_octal, IsEscape, Spells, IsQuoted}
 use Rattle.vf_macro.specs.MacroText.{Counts, joined, nothing, IsPart, joint, string, comment, attribute, escaped, other, IsLast, end, line_comment, open_comment, open_string, open_attribute, Reaches, ends, goes, IsMacroText}
-use Rattle.vf_macro.specs.Scanning.{behind_joint, Seen, Whole, Last, Sees}
+use Rattle.vf_macro.specs.Scanning.{after_joint, Seen, Whole, Last, Sees}
 use Rattle.vf_macro.proofs.Counting.{some_joint, counts_once, counts_append, counts_line, is_in_line}
 use Rattle.vf_macro.proofs.Parts.{IsSeen, sees_sound, seen_once, seen_some}
 
@@ -64,47 +64,47 @@ fronts_line : (bytes front rest : List ℕ) → bytes ≡ front ++ rest → list
 fronts_line bytes front rest e all = record { front = front; text = front; parts = e; counts = counts_line front all }
 
 abbrev Takes : List ℕ → List ℕ → Type 0
-Takes bytes behind = Fronts bytes behind × (length behind < length bytes)
+Takes bytes after = Fronts bytes after × (length after < length bytes)
 
-taken : (bytes behind front : List ℕ) → bytes ≡ front ++ behind → 0 < length front → length behind < length bytes
-taken bytes behind front e some = omega (arith, ap length e, length-append front behind, some)
+taken : (bytes after front : List ℕ) → bytes ≡ front ++ after → 0 < length front → length after < length bytes
+taken bytes after front e some = omega (arith, ap length e, length-append front after, some)
 
-takes_by : (bytes behind : List ℕ) (f : Fronts bytes behind) → 0 < length f.front → Takes bytes behind
-takes_by bytes behind f some = (f, taken bytes behind f.front f.parts some)
+takes_by : (bytes after : List ℕ) (f : Fronts bytes after) → 0 < length f.front → Takes bytes after
+takes_by bytes after f some = (f, taken bytes after f.front f.parts some)
 
-line_takes : (bytes behind front : List ℕ) → bytes ≡ front ++ behind → list_all is_no_newline front ≡ true → 0 < length front
-    → Takes bytes behind
-line_takes bytes behind front e all some = (fronts_line bytes front behind e all, taken bytes behind front e some)
+line_takes : (bytes after front : List ℕ) → bytes ≡ front ++ after → list_all is_no_newline front ≡ true → 0 < length front
+    → Takes bytes after
+line_takes bytes after front e all some = (fronts_line bytes front after e all, taken bytes after front e some)
 
-part_takes : (bytes behind : List ℕ) → IsPart bytes behind → Takes bytes behind
-part_takes bytes behind (joint j) =
-    takes_by bytes behind (record {
+part_takes : (bytes after : List ℕ) → IsPart bytes after → Takes bytes after
+part_takes bytes after (joint j) =
+    takes_by bytes after (record {
       front = j.joint;
       text = 32 ∷ [];
       parts = j.parts;
       counts = joined (record { joint = j.joint; is = j.is; parts = sym (append-nil j.joint) }) nothing;
     }) (some_joint j.joint j.is)
-part_takes bytes behind (string quoted value q e) =
-    line_takes bytes behind (34 ∷ (q.inside ++ 34 ∷ []))
-    (e ∙ ap (λ (t : List ℕ). 34 ∷ t) (q.closed ∙ sym (append_assoc q.inside (34 ∷ []) behind)))
+part_takes bytes after (string quoted value q e) =
+    line_takes bytes after (34 ∷ (q.inside ++ 34 ∷ []))
+    (e ∙ ap (λ (t : List ℕ). 34 ∷ t) (q.closed ∙ sym (append_assoc q.inside (34 ∷ []) after)))
     (all_append q.inside (34 ∷ []) (string_line q.inside value q.spelled) refl) (omega arith)
-part_takes bytes behind (comment inside all lacks e) =
-    line_takes bytes behind (47 ∷ 42 ∷ (inside ++ 42 ∷ 47 ∷ []))
-    (e ∙ ap (λ (t : List ℕ). 47 ∷ 42 ∷ t) (sym (append_assoc inside (42 ∷ 47 ∷ []) behind)))
+part_takes bytes after (comment inside all lacks e) =
+    line_takes bytes after (47 ∷ 42 ∷ (inside ++ 42 ∷ 47 ∷ []))
+    (e ∙ ap (λ (t : List ℕ). 47 ∷ 42 ∷ t) (sym (append_assoc inside (42 ∷ 47 ∷ []) after)))
     (all_append inside (42 ∷ 47 ∷ []) all refl) (omega arith)
-part_takes bytes behind (attribute inside text counts lacks front e) =
-    takes_by bytes behind (record {
+part_takes bytes after (attribute inside text counts lacks front e) =
+    takes_by bytes after (record {
       front = 40 ∷ 42 ∷ (inside ++ 42 ∷ 41 ∷ []);
       text = 40 ∷ 42 ∷ (text ++ 42 ∷ 41 ∷ []);
-      parts = e ∙ ap (λ (t : List ℕ). 40 ∷ 42 ∷ t) (sym (append_assoc inside (42 ∷ 41 ∷ []) behind));
+      parts = e ∙ ap (λ (t : List ℕ). 40 ∷ 42 ∷ t) (sym (append_assoc inside (42 ∷ 41 ∷ []) after));
       counts = counts_append (40 ∷ 42 ∷ []) (40 ∷ 42 ∷ []) (inside ++ 42 ∷ 41 ∷ []) (text ++ 42 ∷ 41 ∷ [])
           (counts_line (40 ∷ 42 ∷ []) refl)
           (counts_append inside text (42 ∷ 41 ∷ []) (42 ∷ 41 ∷ []) counts (counts_line (42 ∷ 41 ∷ []) refl));
     }) (omega arith)
-part_takes bytes behind (escaped name all ending border e) =
-    line_takes bytes behind (92 ∷ name) e (name_line name all) (omega arith)
-part_takes bytes behind (other byte line quote backslash skip e) =
-    line_takes bytes behind (byte ∷ []) e (rw (is_in_line byte line) refl) (omega arith)
+part_takes bytes after (escaped name all ending border e) =
+    line_takes bytes after (92 ∷ name) e (name_line name all) (omega arith)
+part_takes bytes after (other byte line quote backslash skip e) =
+    line_takes bytes after (byte ∷ []) e (rw (is_in_line byte line) refl) (omega arith)
 
 last_fronts : (bytes rest : List ℕ) → IsLast bytes rest → Fronts bytes rest
 last_fronts bytes rest (end stop is) = fronts_line bytes [] rest (sym is) refl
@@ -120,9 +120,9 @@ last_fronts bytes rest (open_attribute inside text counts lacks front stop borde
 
 pub reaches_fronts : (bytes rest : List ℕ) → Reaches bytes rest → Fronts bytes rest
 reaches_fronts bytes rest (ends l) = last_fronts bytes rest l
-reaches_fronts bytes rest (goes behind p r) =
-    let f = (part_takes bytes behind p).0 in
-    let g = reaches_fronts behind rest r in
+reaches_fronts bytes rest (goes after p r) =
+    let f = (part_takes bytes after p).0 in
+    let g = reaches_fronts after rest r in
     record {
       front = f.front ++ g.front;
       text = f.text ++ g.text;
@@ -135,14 +135,14 @@ reaches_fronts bytes rest (goes behind p r) =
 module _ (passes : PassesOnce) where
   reaches_once : (bytes one two : List ℕ) → Reaches bytes one → Reaches bytes two → one ≡ two
   reaches_once bytes one two (ends l) (ends m) = let same : Last one ≡ Last two = seen_once passes bytes (Last one) (Last two) l m in cc
-  reaches_once bytes one two (ends l) (goes behind p r) =
-      let same : Last one ≡ Whole behind = seen_once passes bytes (Last one) (Whole behind) l p in absurd cc
-  reaches_once bytes one two (goes behind p r) (ends l) =
-      let same : Whole behind ≡ Last two = seen_once passes bytes (Whole behind) (Last two) p l in absurd cc
-  reaches_once bytes one two (goes behind p r) (goes behind_2 q s) =
-      let same : Whole behind_2 ≡ Whole behind = seen_once passes bytes (Whole behind_2) (Whole behind) q p in
-      let is : behind_2 ≡ behind = cc in
-      reaches_once behind one two r (subst (λ b. Reaches b two) is s)
+  reaches_once bytes one two (ends l) (goes after p r) =
+      let same : Last one ≡ Whole after = seen_once passes bytes (Last one) (Whole after) l p in absurd cc
+  reaches_once bytes one two (goes after p r) (ends l) =
+      let same : Whole after ≡ Last two = seen_once passes bytes (Whole after) (Last two) p l in absurd cc
+  reaches_once bytes one two (goes after p r) (goes after_2 q s) =
+      let same : Whole after_2 ≡ Whole after = seen_once passes bytes (Whole after_2) (Whole after) q p in
+      let is : after_2 ≡ after = cc in
+      reaches_once after one two r (subst (λ b. Reaches b two) is s)
 
   pub text_once : {bytes text rest text_2 rest_2 : List ℕ} → IsMacroText bytes text rest → IsMacroText bytes text_2 rest_2
       → (text ≡ text_2) × (rest ≡ rest_2)
@@ -154,19 +154,19 @@ module _ (passes : PassesOnce) where
 -- ---- and some text
 
 found_reaches : (bytes : List ℕ) (found : Seen) → IsSeen bytes found
-    → ((behind : List ℕ) → length behind < length bytes → (rest : List ℕ) × Reaches behind rest)
+    → ((after : List ℕ) → length after < length bytes → (rest : List ℕ) × Reaches after rest)
     → (rest : List ℕ) × Reaches bytes rest
 found_reaches bytes (Last rest) is on = (rest, ends is)
-found_reaches bytes (Whole behind) is on =
-    let r = on behind (part_takes bytes behind is).1 in
-    (r.0, goes behind is r.1)
+found_reaches bytes (Whole after) is on =
+    let r = on after (part_takes bytes after is).1 in
+    (r.0, goes after is r.1)
 
 module _ (passes : PassesSome) where
   reaches_within : (n : ℕ) (bytes : List ℕ) → length bytes < n → (rest : List ℕ) × Reaches bytes rest
   reaches_within zero bytes h = absurd (omega (arith, h))
   reaches_within (suc n) bytes h =
       let s = seen_some passes bytes in
-      found_reaches bytes s.0 s.1 (λ behind less. reaches_within n behind (omega (arith, less, h)))
+      found_reaches bytes s.0 s.1 (λ after less. reaches_within n after (omega (arith, less, h)))
 
   pub text_some : (bytes : List ℕ) → (text : List ℕ) × (rest : List ℕ) × IsMacroText bytes text rest
   text_some bytes =
@@ -178,18 +178,18 @@ module _ (passes : PassesSome) where
 
 -- what the rest reaches, the bytes reach
 abbrev pub ReachesOn : List ℕ → List ℕ → Type 0
-ReachesOn bytes behind = (rest : List ℕ) → Reaches behind rest → Reaches bytes rest
+ReachesOn bytes after = (rest : List ℕ) → Reaches after rest → Reaches bytes rest
 
-pub goes_on : (start bytes behind : List ℕ) → Sees (behind_joint bytes) bytes (Whole behind) → ReachesOn start bytes
-    → ReachesOn start behind
-goes_on start bytes behind s on rest r = on rest (goes behind (sees_sound bytes (Whole behind) s) r)
+pub goes_on : (start bytes after : List ℕ) → Sees (after_joint bytes) bytes (Whole after) → ReachesOn start bytes
+    → ReachesOn start after
+goes_on start bytes after s on rest r = on rest (goes after (sees_sound bytes (Whole after) s) r)
 
-pub ends_here : (start bytes rest : List ℕ) → Sees (behind_joint bytes) bytes (Last rest) → ReachesOn start bytes
+pub ends_here : (start bytes rest : List ℕ) → Sees (after_joint bytes) bytes (Last rest) → ReachesOn start bytes
     → Reaches start rest
 ends_here start bytes rest s on = on rest (ends (sees_sound bytes (Last rest) s))
 
-pub shorter : (bytes behind : List ℕ) → Sees (behind_joint bytes) bytes (Whole behind) → length behind < length bytes
-shorter bytes behind s = (part_takes bytes behind (sees_sound bytes (Whole behind) s)).1
+pub shorter : (bytes after : List ℕ) → Sees (after_joint bytes) bytes (Whole after) → length after < length bytes
+shorter bytes after s = (part_takes bytes after (sees_sound bytes (Whole after) s)).1
 
 -- the bytes before the rest
 front_is : (bytes rest : List ℕ) (f : Fronts bytes rest) → take (length bytes - length rest) bytes ≡ f.front

@@ -1,4 +1,3 @@
-pub mod Lines
 pub mod MacroText
 pub mod Scanning
 pub mod Laws

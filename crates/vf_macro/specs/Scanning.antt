@@ -1,7 +1,8 @@
 -- What the code does to find the end of a macro's text, as functions on lists. The definition of the text (MacroText) does not rest
 -- on them: the proofs show that they find exactly what it says.
 use Rattle.std.specs.Prelude.{◌≡◌, ℕ, Bool, not, ◌==◌, ◌&&◌, if◌then◌else◌, List, [], ◌∷◌, drop, Option, None, Some}
-use Rattle.vf_lexeme.specs.Bytes.{is_no_blank, is_no_newline}
+use Rattle.vf_number.specs.Runs.{begins_with}
+use Rattle.vf_lexeme.specs.Bytes.{is_no_blank, is_no_newline, after_line}
 use Rattle.vf_lexeme.specs.Strings.{IsQuoted}
 use Rattle.vf_macro.specs.declared.scan.Inside.{Inside}
 use Rattle.vf_macro.specs.declared.scan.Inside.TheVariants as insides
@@ -9,7 +10,6 @@ use Rattle.vf_macro.specs.declared.scan.Kind.{Kind}
 use Rattle.vf_macro.specs.declared.scan.Kind.TheVariants.{End, Quote, Escaped, Line, Comment, Attribute, Other}
 use Rattle.vf_macro.specs.declared.scan.Part.{Part}
 use Rattle.vf_macro.specs.declared.scan.Part.TheVariants as parts
-use Rattle.vf_macro.specs.Lines.{begins_with, behind_line}
 
 -- ---- the byte at the front
 
@@ -17,25 +17,25 @@ abbrev pub is_byte : ℕ → ℕ → Bool
 is_byte byte first = first == byte
 
 -- what follows the byte at the front, where it is of the class
-unfoldable pub behind_class : (ℕ → Bool) → List ℕ → Option (List ℕ)
-behind_class class [] = None
-behind_class class (first ∷ rest) = if class first then Some rest else None
+unfoldable pub after_class : (ℕ → Bool) → List ℕ → Option (List ℕ)
+after_class class [] = None
+after_class class (first ∷ rest) = if class first then Some rest else None
 
 -- what follows the end of a line at the front
-unfoldable pub behind_end : List ℕ → Option (List ℕ)
-behind_end [] = None
-behind_end (first ∷ rest) =
-    if first == 10 then Some rest else if first == 13 then behind_class (is_byte 10) rest else None
+unfoldable pub after_end : List ℕ → Option (List ℕ)
+after_end [] = None
+after_end (first ∷ rest) =
+    if first == 10 then Some rest else if first == 13 then after_class (is_byte 10) rest else None
 
 -- what follows a joint at the front
-unfoldable pub behind_joint : List ℕ → Option (List ℕ)
-behind_joint [] = None
-behind_joint (first ∷ rest) = if first == 92 then behind_end rest else None
+unfoldable pub after_joint : List ℕ → Option (List ℕ)
+after_joint [] = None
+after_joint (first ∷ rest) = if first == 92 then after_end rest else None
 
 -- what follows a `*` and that byte at the front
-unfoldable pub behind_close : ℕ → List ℕ → Option (List ℕ)
-behind_close close [] = None
-behind_close close (first ∷ rest) = if first == 42 then behind_class (is_byte close) rest else None
+unfoldable pub after_close : ℕ → List ℕ → Option (List ℕ)
+after_close close [] = None
+after_close close (first ∷ rest) = if first == 42 then after_class (is_byte close) rest else None
 
 -- ---- the inside of a part
 
@@ -51,9 +51,9 @@ unless None other = other
 
 -- what follows the byte or joint at the front, where it stands inside
 abbrev pub step : Inside → List ℕ → Option (List ℕ)
-step insides.Escaped bytes = unless (behind_joint bytes) (behind_class is_no_blank bytes)
-step insides.Comment bytes = unless (behind_close 47 bytes) (behind_class is_no_newline bytes)
-step insides.Attribute bytes = or_else (behind_joint bytes) (unless (behind_close 41 bytes) (behind_class is_no_newline bytes))
+step insides.Escaped bytes = unless (after_joint bytes) (after_class is_no_blank bytes)
+step insides.Comment bytes = unless (after_close 47 bytes) (after_class is_no_newline bytes)
+step insides.Attribute bytes = or_else (after_joint bytes) (unless (after_close 41 bytes) (after_class is_no_newline bytes))
 
 -- the inside of a part goes up to the rest
 pub data Runs (inside : Inside) : List ℕ → List ℕ → Type 0 where
@@ -102,18 +102,18 @@ pub data Seen : Type 0 where
   Last : List ℕ → Seen
 
 abbrev pub seen : Part → Seen
-seen (parts.Whole behind) = Whole behind.now
+seen (parts.Whole after) = Whole after.now
 seen (parts.Last rest) = Last rest.now
 
 -- a part whose inside is read is whole where its mark stands there, and else the last
 abbrev pub closed : Option (List ℕ) → List ℕ → Seen
-closed (Some behind) rest = Whole behind
+closed (Some after) rest = Whole after
 closed None rest = Last rest
 
 -- what a quote begins that these bytes follow
 pub data SeesString (quoted : List ℕ) (found : Seen) : Type 0 where
-  whole : (value behind : List ℕ) → IsQuoted quoted value behind → found ≡ Whole behind → SeesString quoted found
-  open_end : ((value behind : List ℕ) → IsQuoted quoted value behind → ⊥) → found ≡ Last (behind_line quoted)
+  whole : (value after : List ℕ) → IsQuoted quoted value after → found ≡ Whole after → SeesString quoted found
+  open_end : ((value after : List ℕ) → IsQuoted quoted value after → ⊥) → found ≡ Last (after_line quoted)
       → SeesString quoted found
 
 -- what is seen of a part by what follows its first bytes
@@ -121,12 +121,12 @@ abbrev pub SeesKind : Kind → List ℕ → Seen → Type 0
 SeesKind End bytes found = found ≡ Last bytes
 SeesKind Quote bytes found = SeesString bytes found
 SeesKind Escaped bytes found = (rest : List ℕ) × Runs insides.Escaped bytes rest × (found ≡ Whole rest)
-SeesKind Line bytes found = found ≡ Last (behind_line bytes)
-SeesKind Comment bytes found = (rest : List ℕ) × Runs insides.Comment bytes rest × (found ≡ closed (behind_close 47 rest) rest)
-SeesKind Attribute bytes found = (rest : List ℕ) × Runs insides.Attribute bytes rest × (found ≡ closed (behind_close 41 rest) rest)
+SeesKind Line bytes found = found ≡ Last (after_line bytes)
+SeesKind Comment bytes found = (rest : List ℕ) × Runs insides.Comment bytes rest × (found ≡ closed (after_close 47 rest) rest)
+SeesKind Attribute bytes found = (rest : List ℕ) × Runs insides.Attribute bytes rest × (found ≡ closed (after_close 41 rest) rest)
 SeesKind Other bytes found = found ≡ Whole bytes
 
--- what is seen of bytes that a joint begins, behind which these stand, or no joint
+-- what is seen of bytes that a joint begins, after which these stand, or no joint
 abbrev pub Sees : Option (List ℕ) → List ℕ → Seen → Type 0
-Sees (Some behind) bytes found = found ≡ Whole behind
+Sees (Some after) bytes found = found ≡ Whole after
 Sees None bytes found = SeesKind (kind_at bytes) (drop (opening (kind_at bytes)) bytes) found

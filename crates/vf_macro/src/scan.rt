@@ -4,12 +4,12 @@ ghost use Rattle.std.specs.Prelude.{◌≡◌, ℕ, ◌+◌, ◌<◌, ◌≤◌,
 ghost use Rattle.std.specs.Option.{option_map};
 ghost use Rattle.vf_lexeme.specs.Bytes.{is_no_blank, is_no_newline};
 ghost use Rattle.vf_macro.specs.MacroText.{Counts, Reaches, IsMacroText};
-ghost use Rattle.vf_macro.specs.Scanning.{is_byte, behind_class, behind_end, behind_joint, behind_close, or_else, unless, step, Runs, slash_kind, bracket_kind, kind_by, kind_at, opening, seen, closed, SeesString, SeesKind, Sees};
+ghost use Rattle.vf_macro.specs.Scanning.{is_byte, after_class, after_end, after_joint, after_close, or_else, unless, step, Runs, slash_kind, bracket_kind, kind_by, kind_at, opening, seen, closed, SeesString, SeesKind, Sees};
 
-use crate::lines::{begins_with, behind_line};
 use std::alloc::Global;
 use vf_base::Memory;
-use vf_lexeme::{is_blank, passed};
+use vf_lexeme::{after_line, is_blank, passed};
+use vf_number::begins_with;
 
 /// A part whose inside is read byte by byte.
 #[derive(Clone, Copy)]
@@ -25,7 +25,7 @@ pub(crate) enum Inside {
 /// What begins the bytes of a part.
 #[derive(Clone, Copy)]
 pub(crate) enum Kind {
-    /// The end of the line or of all.
+    /// The end of the line or of the bytes.
     End,
     /// A string.
     Quote,
@@ -37,23 +37,23 @@ pub(crate) enum Kind {
     Comment,
     /// An attribute.
     Attribute,
-    /// A byte that begins nothing of the others.
+    /// A byte that begins none of the others.
     Other,
 }
 
 /// A part of a macro's text.
 #[derive(Clone, Copy)]
 pub(crate) enum Part<'a> {
-    /// One behind which the text goes on, and what follows it.
+    /// A part after which the text goes on, and what follows it.
     Whole(&'a [u8]),
-    /// The last one, and what follows the text.
+    /// The last part, and what follows the text.
     Last(&'a [u8]),
 }
 
 /// What follows the byte at the front, where it is this one.
-#[tactic(auto, unfolding(crate::specs::Scanning::behind_class))]
-fn behind_byte(byte: u8, bytes: &[u8]) -> Option<&[u8]>
-    ensures value { option_map (λ rest. rest.now) result ≡ behind_class (is_byte byte) bytes.now }
+#[tactic(auto, unfolding(crate::specs::Scanning::after_class))]
+fn after_byte(byte: u8, bytes: &[u8]) -> Option<&[u8]>
+    ensures value { option_map (λ rest. rest.now) result ≡ after_class (is_byte byte) bytes.now }
     ensures shorter { IfSome result (λ rest. length rest.now < length bytes.now) }
 {
     match bytes {
@@ -67,10 +67,10 @@ fn behind_byte(byte: u8, bytes: &[u8]) -> Option<&[u8]>
     }
 }
 
-/// What follows the byte at the front, where it is no blank.
-#[tactic(auto, unfolding(crate::specs::Scanning::behind_class))]
-fn behind_no_blank(bytes: &[u8]) -> Option<&[u8]>
-    ensures value { option_map (λ rest. rest.now) result ≡ behind_class is_no_blank bytes.now }
+/// What follows the byte at the front, where it is not a blank.
+#[tactic(auto, unfolding(crate::specs::Scanning::after_class))]
+fn after_no_blank(bytes: &[u8]) -> Option<&[u8]>
+    ensures value { option_map (λ rest. rest.now) result ≡ after_class is_no_blank bytes.now }
     ensures shorter { IfSome result (λ rest. length rest.now < length bytes.now) }
 {
     match bytes {
@@ -85,9 +85,9 @@ fn behind_no_blank(bytes: &[u8]) -> Option<&[u8]>
 }
 
 /// What follows the byte at the front, where it does not end the line.
-#[tactic(auto, unfolding(crate::specs::Scanning::behind_class))]
-fn behind_no_newline(bytes: &[u8]) -> Option<&[u8]>
-    ensures value { option_map (λ rest. rest.now) result ≡ behind_class is_no_newline bytes.now }
+#[tactic(auto, unfolding(crate::specs::Scanning::after_class))]
+fn after_no_newline(bytes: &[u8]) -> Option<&[u8]>
+    ensures value { option_map (λ rest. rest.now) result ≡ after_class is_no_newline bytes.now }
     ensures shorter { IfSome result (λ rest. length rest.now < length bytes.now) }
 {
     match bytes {
@@ -102,9 +102,9 @@ fn behind_no_newline(bytes: &[u8]) -> Option<&[u8]>
 }
 
 /// What follows a newline at the front, or a carriage return and a newline.
-#[tactic(auto, unfolding(crate::specs::Scanning::behind_end))]
-fn behind_end(bytes: &[u8]) -> Option<&[u8]>
-    ensures value { option_map (λ rest. rest.now) result ≡ behind_end bytes.now }
+#[tactic(auto, unfolding(crate::specs::Scanning::after_end))]
+fn after_end(bytes: &[u8]) -> Option<&[u8]>
+    ensures value { option_map (λ rest. rest.now) result ≡ after_end bytes.now }
     ensures shorter { IfSome result (λ rest. length rest.now < length bytes.now) }
 {
     match bytes {
@@ -113,7 +113,7 @@ fn behind_end(bytes: &[u8]) -> Option<&[u8]>
                 return Some(rest);
             }
             if *first == b'\r' {
-                return behind_byte(b'\n', rest);
+                return after_byte(b'\n', rest);
             }
             None
         }
@@ -122,15 +122,15 @@ fn behind_end(bytes: &[u8]) -> Option<&[u8]>
 }
 
 /// What follows a `\` and the end of its line at the front.
-#[tactic(auto, unfolding(crate::specs::Scanning::behind_joint))]
-fn behind_joint(bytes: &[u8]) -> Option<&[u8]>
-    ensures value { option_map (λ rest. rest.now) result ≡ behind_joint bytes.now }
+#[tactic(auto, unfolding(crate::specs::Scanning::after_joint))]
+fn after_joint(bytes: &[u8]) -> Option<&[u8]>
+    ensures value { option_map (λ rest. rest.now) result ≡ after_joint bytes.now }
     ensures shorter { IfSome result (λ rest. length rest.now < length bytes.now) }
 {
     match bytes {
         [first, rest @ ..] => {
             if *first == b'\\' {
-                return behind_end(rest);
+                return after_end(rest);
             }
             None
         }
@@ -139,15 +139,15 @@ fn behind_joint(bytes: &[u8]) -> Option<&[u8]>
 }
 
 /// What follows a `*` and this byte at the front.
-#[tactic(auto, unfolding(crate::specs::Scanning::behind_close))]
-fn behind_close(close: u8, bytes: &[u8]) -> Option<&[u8]>
-    ensures value { option_map (λ rest. rest.now) result ≡ behind_close close bytes.now }
+#[tactic(auto, unfolding(crate::specs::Scanning::after_close))]
+fn after_close(close: u8, bytes: &[u8]) -> Option<&[u8]>
+    ensures value { option_map (λ rest. rest.now) result ≡ after_close close bytes.now }
     ensures shorter { IfSome result (λ rest. length rest.now < length bytes.now) }
 {
     match bytes {
         [first, rest @ ..] => {
             if *first == b'*' {
-                return behind_byte(close, rest);
+                return after_byte(close, rest);
             }
             None
         }
@@ -156,37 +156,37 @@ fn behind_close(close: u8, bytes: &[u8]) -> Option<&[u8]>
 }
 
 /// What follows the byte at the front, where it stands in an escaped name.
-fn behind_escaped(bytes: &[u8]) -> Option<&[u8]>
-    ensures value { option_map (λ rest. rest.now) result ≡ unless (behind_joint bytes.now) (behind_class is_no_blank bytes.now) }
+fn after_escaped(bytes: &[u8]) -> Option<&[u8]>
+    ensures value { option_map (λ rest. rest.now) result ≡ unless (after_joint bytes.now) (after_class is_no_blank bytes.now) }
     ensures shorter { IfSome result (λ rest. length rest.now < length bytes.now) }
 {
-    match behind_joint(bytes) {
+    match after_joint(bytes) {
         Some(_) => None,
-        None => behind_no_blank(bytes),
+        None => after_no_blank(bytes),
     }
 }
 
 /// What follows the byte at the front, where it stands on the line and no `*` with this byte begins there.
-fn behind_unclosed(close: u8, bytes: &[u8]) -> Option<&[u8]>
+fn after_unclosed(close: u8, bytes: &[u8]) -> Option<&[u8]>
     ensures value { option_map (λ rest. rest.now) result
-        ≡ unless (behind_close close bytes.now) (behind_class is_no_newline bytes.now) }
+        ≡ unless (after_close close bytes.now) (after_class is_no_newline bytes.now) }
     ensures shorter { IfSome result (λ rest. length rest.now < length bytes.now) }
 {
-    match behind_close(close, bytes) {
+    match after_close(close, bytes) {
         Some(_) => None,
-        None => behind_no_newline(bytes),
+        None => after_no_newline(bytes),
     }
 }
 
 /// What follows the byte or joint at the front, where it stands in an attribute.
-fn behind_attribute(bytes: &[u8]) -> Option<&[u8]>
+fn after_attribute(bytes: &[u8]) -> Option<&[u8]>
     ensures value { option_map (λ rest. rest.now) result
-        ≡ or_else (behind_joint bytes.now) (unless (behind_close 41 bytes.now) (behind_class is_no_newline bytes.now)) }
+        ≡ or_else (after_joint bytes.now) (unless (after_close 41 bytes.now) (after_class is_no_newline bytes.now)) }
     ensures shorter { IfSome result (λ rest. length rest.now < length bytes.now) }
 {
-    match behind_joint(bytes) {
+    match after_joint(bytes) {
         Some(rest) => Some(rest),
-        None => behind_unclosed(b')', bytes),
+        None => after_unclosed(b')', bytes),
     }
 }
 
@@ -196,14 +196,14 @@ fn step(inside: Inside, bytes: &[u8]) -> Option<&[u8]>
     ensures shorter { IfSome result (λ rest. length rest.now < length bytes.now) }
 {
     match inside {
-        Inside::Escaped => behind_escaped(bytes),
-        Inside::Comment => behind_unclosed(b'/', bytes),
-        Inside::Attribute => behind_attribute(bytes),
+        Inside::Escaped => after_escaped(bytes),
+        Inside::Comment => after_unclosed(b'/', bytes),
+        Inside::Attribute => after_attribute(bytes),
     }
 }
 
 /// What follows the inside of a part.
-fn behind_inside(inside: Inside, bytes: &[u8]) -> &[u8]
+fn after_inside(inside: Inside, bytes: &[u8]) -> &[u8]
     ensures { Runs inside bytes.now result.now }
 {
     let mut rest = bytes;
@@ -213,7 +213,7 @@ fn behind_inside(inside: Inside, bytes: &[u8]) -> &[u8]
     rest
 }
 
-/// What a `/` begins that these bytes follow.
+/// What a `/` begins before these bytes.
 #[tactic(auto, unfolding(crate::specs::Scanning::slash_kind))]
 fn slash_kind(bytes: &[u8]) -> Kind
     ensures value { result ≡ slash_kind bytes.now }
@@ -233,7 +233,7 @@ fn slash_kind(bytes: &[u8]) -> Kind
     }
 }
 
-/// What a `(` begins that these bytes follow.
+/// What a `(` begins before these bytes.
 #[tactic(auto, unfolding(crate::specs::Scanning::bracket_kind))]
 fn bracket_kind(bytes: &[u8]) -> Kind
     ensures value { result ≡ bracket_kind bytes.now }
@@ -250,7 +250,7 @@ fn bracket_kind(bytes: &[u8]) -> Kind
     }
 }
 
-/// What begins with the byte, which these bytes follow.
+/// What a byte begins before these bytes.
 #[tactic(auto, unfolding(crate::specs::Scanning::kind_by))]
 fn kind_by(first: u8, rest: &[u8]) -> Kind
     ensures value { result ≡ kind_by first rest.now }
@@ -299,63 +299,63 @@ fn opening(kind: Kind) -> usize
 
 /// A part whose inside is read, up to these bytes.
 fn closed(close: u8, rest: &[u8]) -> Part<'_>
-    ensures { seen result ≡ closed (behind_close close rest.now) rest.now }
+    ensures { seen result ≡ closed (after_close close rest.now) rest.now }
 {
-    match behind_close(close, rest) {
-        Some(behind) => Part::Whole(behind),
+    match after_close(close, rest) {
+        Some(after) => Part::Whole(after),
         None => Part::Last(rest),
     }
 }
 
-/// The string at the front, whose quote the second bytes follow.
+/// The string at the front; the second bytes are those after its quote.
 fn string<'a>(bytes: &'a [u8], quoted: &'a [u8]) -> Part<'a>
     requires { bytes.now ≡ 34 ∷ quoted.now }
     ensures { SeesString quoted.now (seen result) }
 {
     match passed(bytes) {
-        Ok((_, behind)) => Part::Whole(behind),
-        Err(_) => Part::Last(behind_line(quoted)),
+        Ok((_, after)) => Part::Whole(after),
+        Err(_) => Part::Last(after_line(quoted)),
     }
 }
 
-/// The part of this kind at the front, whose first bytes the second bytes follow.
-fn part_by<'a>(kind: Kind, bytes: &'a [u8], behind: &'a [u8]) -> Part<'a>
+/// The part of this kind at the front; the second bytes are those after its opening.
+fn part_by<'a>(kind: Kind, bytes: &'a [u8], after: &'a [u8]) -> Part<'a>
     requires kind { kind ≡ kind_at bytes.now }
-    requires behind { behind.now ≡ drop (opening kind) bytes.now }
-    ensures { SeesKind kind behind.now (seen result) }
+    requires after { after.now ≡ drop (opening kind) bytes.now }
+    ensures { SeesKind kind after.now (seen result) }
 {
     match kind {
-        Kind::End => Part::Last(behind),
-        Kind::Quote => string(bytes, behind),
-        Kind::Escaped => Part::Whole(behind_inside(Inside::Escaped, behind)),
-        Kind::Line => Part::Last(behind_line(behind)),
-        Kind::Comment => closed(b'/', behind_inside(Inside::Comment, behind)),
-        Kind::Attribute => closed(b')', behind_inside(Inside::Attribute, behind)),
-        Kind::Other => Part::Whole(behind),
+        Kind::End => Part::Last(after),
+        Kind::Quote => string(bytes, after),
+        Kind::Escaped => Part::Whole(after_inside(Inside::Escaped, after)),
+        Kind::Line => Part::Last(after_line(after)),
+        Kind::Comment => closed(b'/', after_inside(Inside::Comment, after)),
+        Kind::Attribute => closed(b')', after_inside(Inside::Attribute, after)),
+        Kind::Other => Part::Whole(after),
     }
 }
 
 /// The part of a macro's text at the front.
 fn part_at(bytes: &[u8]) -> Part<'_>
-    ensures { Sees (behind_joint bytes.now) bytes.now (seen result) }
+    ensures { Sees (after_joint bytes.now) bytes.now (seen result) }
 {
-    if let Some(behind) = behind_joint(bytes) {
-        return Part::Whole(behind);
+    if let Some(after) = after_joint(bytes) {
+        return Part::Whole(after);
     }
     let kind = kind_at(bytes);
-    let (_, behind) = bytes.split_at(opening(kind));
-    part_by(kind, bytes, behind)
+    let (_, after) = bytes.split_at(opening(kind));
+    part_by(kind, bytes, after)
 }
 
 /// What follows the text of a macro.
-fn behind_text(bytes: &[u8]) -> &[u8]
+fn after_text(bytes: &[u8]) -> &[u8]
     ensures reaches { Reaches bytes.now result.now }
     ensures within { length result.now ≤ length bytes.now }
 {
     let mut from = bytes;
     'parts: loop {
         match part_at(from) {
-            Part::Whole(behind) => from = behind,
+            Part::Whole(after) => from = after,
             Part::Last(rest) => return rest,
         }
     }
@@ -368,27 +368,28 @@ fn counted(alloc: Global, bytes: &[u8]) -> Result<Vec<u8>, Memory>
 {
     let mut text = Vec::with_capacity(alloc, bytes.len())?;
     let mut rest = bytes;
-    while let Some((first, after)) = rest.split_first() {
-        match behind_joint(rest) {
-            Some(behind) => {
+    while let Some((first, more)) = rest.split_first() {
+        match after_joint(rest) {
+            Some(after) => {
                 text.push(b' ')?;
-                rest = behind;
+                rest = after;
             }
             None => {
                 text.push(*first)?;
-                rest = after;
+                rest = more;
             }
         }
     }
     Ok(text)
 }
 
-/// The text of a macro that the bytes begin with, and its rest.
+/// The text of a macro that the bytes begin with, in which a joint is one blank, and what follows it. Only out of memory is
+/// refused.
 pub fn macro_text<'a>(alloc: Global, bytes: &'a [u8]) -> Result<(Vec<u8>, &'a [u8]), Memory>
     ensures text { IfOk result (λ r. IsMacroText bytes.now r.0.items r.1.now) }
-    ensures behind { IfOk result (λ r. length r.1.now ≤ length bytes.now) }
+    ensures within { IfOk result (λ r. length r.1.now ≤ length bytes.now) }
 {
-    let rest = behind_text(bytes);
+    let rest = after_text(bytes);
     let text = counted(alloc, &bytes[..bytes.len() - rest.len()])?;
     Ok((text, rest))
 }

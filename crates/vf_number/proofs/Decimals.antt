@@ -8,7 +8,7 @@ use Rattle.vf_number.specs.Bytes.{is_digit}
 use Rattle.vf_number.specs.Numbers.{is_underscore, is_decimal_byte}
 use Rattle.vf_number.specs.Reading.{appended, below}
 
--- the number that digits write behind the number n
+-- the number that digits write after the number n
 abbrev pub decimal_after : ℕ → List ℕ → ℕ
 decimal_after n digits = digits_value_after 10 n (filter (λ byte. not (is_underscore byte)) digits)
 

@@ -8,7 +8,7 @@ use Rattle.vf_fours.specs.declared.Bit.{Bit}
 use Rattle.vf_fours.specs.declared.Bit.TheVariants.{X, Z}
 use Rattle.vf_fours.specs.Numbers.{digits_of, digit, bit_is}
 use Rattle.vf_fours.specs.Shapes.{length-tabulate}
-use Rattle.vf_number.proofs.BitLists.{tabulate-cut}
+use Rattle.vf_number.proofs.BitLists.{tabulate_cut}
 use Rattle.vf_number.specs.declared.bases.Base.{Base}
 use Rattle.vf_number.specs.declared.bases.Base.TheVariants.{Binary, Octal, Decimal, Hex}
 use Rattle.vf_number.specs.declared.fault.NumberFault.TheVariants.{BadNumber}
@@ -17,9 +17,9 @@ use Rattle.vf_number.specs.Runs.{run}
 use Rattle.vf_number.specs.Reading.{AreDigits, is_decimal, with_digit, with_digits, value_at}
 use Rattle.vf_number.proofs.RunLemmas.{run_all}
 
-pub length-digit_bits : (base : Base) (byte : ℕ) → length (digit_bits base byte) ≡ digit_width base
+pub digit_bits_length : (base : Base) (byte : ℕ) → length (digit_bits base byte) ≡ digit_width base
 unfolding digits_of
-length-digit_bits base byte = elim (cases_Bool (is_x byte)) [
+digit_bits_length base byte = elim (cases_Bool (is_x byte)) [
   | inl x ↦ rw x (length-replicate (digit_width base) X)
   | inr other ↦ elim (cases_Bool (is_z byte)) [
     | inl z ↦ rw (other, z) (length-replicate (digit_width base) Z)
@@ -46,7 +46,7 @@ one_digit base byte more = elim (cases_Bool (is_underscore byte)) [
       let bits = digit_bits base byte in
       let n = 128 - digit_width base in
       let small = width_fits base in
-      let size = length-digit_bits base byte in
+      let size = digit_bits_length base byte in
       let whole : length bits + n ≡ 128 = omega arith in
       rw (other, take-take n 128 more (omega arith)) (sym (take-append-add bits more n) ∙ ap (λ k. take k (bits ++ more)) whole)
 ]
@@ -96,7 +96,7 @@ bits_cut Binary digits w h = cut_spelled Binary digits (fill_of digits) w h
 bits_cut Octal digits w h = cut_spelled Octal digits (fill_of digits) w h
 bits_cut Decimal digits w h = elim (cases_Bool (is_unknown_at digits)) [
   | inl unknown ↦ rw unknown (take-replicate w 128 (fill_of digits) h)
-  | inr known ↦ rw known (tabulate-cut (λ i. digit (bit_is (decimal_value digits) i)) w 128 h)
+  | inr known ↦ rw known (tabulate_cut (λ i. digit (bit_is (decimal_value digits) i)) w 128 h)
 ]
 bits_cut Hex digits w h = cut_spelled Hex digits (fill_of digits) w h
 

@@ -12,11 +12,11 @@ use Rattle.vf_number.specs.declared.fault.NumberFault.{NumberFault}
 use Rattle.vf_number.specs.declared.fault.NumberFault.TheVariants.{BadNumber, TooWide}
 use Rattle.vf_number.specs.Bytes.{is_digit, is_blank, Ends}
 use Rattle.vf_number.specs.Numbers.{is_underscore, is_decimal_byte, IsUnsigned, decimal_value, is_x, is_z, is_unknown, base_of, is_digit_of, is_byte_of, IsDigits, known, unknown, bits_at, is_too_large, IsSized, unsized, sized, IsBased, unmarked, marked, width_of, IsTicked, Read, IsNumber, BeginsNumber, plain, plain_too_large, based, no_digits, no_bits, too_wide, too_large}
-use Rattle.vf_number.specs.Runs.{run, behind}
-use Rattle.vf_number.specs.Reading.{Shows, is_decimal, mark_at, seen_base, base_at, digits_at, width_at, value_at, based_at, plain_at, number_by, number_at}
-use Rattle.vf_number.proofs.RunLemmas.{run_parts, run_all, behind_ends, run_of, behind_of}
+use Rattle.vf_number.specs.Runs.{run, after_run}
+use Rattle.vf_number.specs.Reading.{Shows, is_decimal, mark_at, seen_base, base_at, digits_at, width_at, value_at, based_at, plain_at, plain_or_based, number_at}
+use Rattle.vf_number.proofs.RunLemmas.{run_parts, run_all, after_run_ends, run_of, after_run_of}
 use Rattle.vf_number.proofs.Digits.{is_decimal_base, bits_cut}
-use Rattle.vf_number.proofs.Taking.{behind_shorter, number_takes}
+use Rattle.vf_number.proofs.Taking.{after_shorter, number_takes}
 
 -- ---- classes
 
@@ -111,20 +111,20 @@ data IsDigitsAt (b : Base) (text : List ℕ) (seen : Result (List ℕ × List �
   absent : seen ≡ Err BadNumber → IsDigitsAt b text seen
 
 digits_is : (b : Base) (text : List ℕ) → IsDigitsAt b text (digits_at b text)
-unfolding digits_at run behind
+unfolding digits_at run after_run
 digits_is b [] = absent refl
 digits_is b (first ∷ rest) = elim (cases_Bool (is_digit_of b first)) [
   | inl digit ↦
       let class = is_byte_of b in
-      found (first ∷ run class rest) (behind class rest) (ap (λ (t : List ℕ). first ∷ t) (run_parts class rest))
-      (known first (run class rest) digit (run_all class rest) (behind_ends class rest) refl) (rw digit refl)
+      found (first ∷ run class rest) (after_run class rest) (ap (λ (t : List ℕ). first ∷ t) (run_parts class rest))
+      (known first (run class rest) digit (run_all class rest) (after_run_ends class rest) refl) (rw digit refl)
   | inr other ↦ elim (cases_Bool (is_decimal b && is_unknown first)) [
     | inl both ↦
         let p = and_parts (is_decimal b) (is_unknown first) both in
-        found (first ∷ run is_underscore rest) (behind is_underscore rest)
+        found (first ∷ run is_underscore rest) (after_run is_underscore rest)
         (ap (λ (t : List ℕ). first ∷ t) (run_parts is_underscore rest))
         (unknown first (run is_underscore rest) (is_decimal_base b p.0) p.1 (run_all is_underscore rest)
-        (behind_ends is_underscore rest) refl) (rw (other, both) refl)
+        (after_run_ends is_underscore rest) refl) (rw (other, both) refl)
     | inr none ↦ absent (rw (other, none) refl)
   ]
 ]
@@ -147,16 +147,16 @@ unknown_no_digit b h = elim (or_cases (is_x b) (is_z b) h) [
 known_complete : (b : Base) (first : ℕ) (more rest : List ℕ) → is_digit_of b first ≡ true → list_all (is_byte_of b) more ≡ true
     → Ends (is_byte_of b) rest
     → digits_at b (first ∷ (more ++ rest)) ≡ Ok (first ∷ more, rest)
-unfolding digits_at run behind
+unfolding digits_at run after_run
 known_complete b first more rest digit all ends =
-    rw (digit, run_of (is_byte_of b) more rest all ends, behind_of (is_byte_of b) more rest all ends) refl
+    rw (digit, run_of (is_byte_of b) more rest all ends, after_run_of (is_byte_of b) more rest all ends) refl
 
 unknown_complete : (first : ℕ) (more rest : List ℕ) → is_unknown first ≡ true → list_all is_underscore more ≡ true
     → Ends is_underscore rest
     → digits_at Decimal (first ∷ (more ++ rest)) ≡ Ok (first ∷ more, rest)
 unfolding digits_at
 unknown_complete first more rest h all ends =
-    rw (unknown_no_digit first h, h, run_of is_underscore more rest all ends, behind_of is_underscore more rest all ends) refl
+    rw (unknown_no_digit first h, h, run_of is_underscore more rest all ends, after_run_of is_underscore more rest all ends) refl
 
 digits_complete : (b : Base) (digits rest : List ℕ) → IsDigits b digits rest → digits_at b (digits ++ rest) ≡ Ok (digits, rest)
 digits_complete b digits rest (known first more digit all ends e) = rw e (known_complete b first more rest digit all ends)
@@ -211,10 +211,10 @@ digits_end base digits rest (unknown first more is h all ends e) =
 
 -- the three parts of it
 pub record IsShape (text : List ℕ) (signed : Bool) (base : Base) (digits rest : List ℕ) : Type 0 where
-  pub behind_base : List ℕ
+  pub after_base : List ℕ
   pub mark : (mark_at text).0 ≡ signed
-  pub base_read : base_at (mark_at text).1 ≡ Ok (base, behind_base)
-  pub digits_read : digits_at base (behind is_blank behind_base) ≡ Ok (digits, rest)
+  pub base_read : base_at (mark_at text).1 ≡ Ok (base, after_base)
+  pub digits_read : digits_at base (after_run is_blank after_base) ≡ Ok (digits, rest)
 
 base_no_mark : (letter : ℕ) (b : Base) → base_of letter ≡ Some b → (letter == 115 || letter == 83) ≡ false
 base_no_mark letter b h = elim (cases_Bool (letter == 115 || letter == 83)) [
@@ -239,10 +239,10 @@ shaped : (text : List ℕ) (letter : ℕ) (blanks : List ℕ) (signed : Bool) (b
     → base_of letter ≡ Some base → list_all is_blank blanks ≡ true → IsDigits base digits rest
     → IsShape text signed base digits rest
 shaped text letter blanks signed base digits rest m h all d = record {
-  behind_base = blanks ++ (digits ++ rest);
+  after_base = blanks ++ (digits ++ rest);
   mark = ap (λ p. p.0) m;
   base_read = ap (λ p. base_at p.1) m ∙ base_complete letter (blanks ++ (digits ++ rest)) base h;
-  digits_read = ap (digits_at base) (behind_of is_blank blanks (digits ++ rest) all (digits_end base digits rest d))
+  digits_read = ap (digits_at base) (after_run_of is_blank blanks (digits ++ rest) all (digits_end base digits rest d))
       ∙ digits_complete base digits rest d;
 }
 
@@ -288,49 +288,49 @@ value_too_large : (b : Base) (digits : List ℕ) → is_too_large b digits ≡ t
 unfolding value_at
 value_too_large b digits h = rw h refl
 
-seen_value : (size more digits rest behind_base : List ℕ) (b : Base) (n : ℕ) (bits : List Bit)
-    → base_at (mark_at more).1 ≡ Ok (b, behind_base)
-    → digits_at b (behind is_blank behind_base) ≡ Ok (digits, rest) → value_at b digits ≡ Ok bits → width_at size ≡ Ok n
+seen_value : (size more digits rest after_base : List ℕ) (b : Base) (n : ℕ) (bits : List Bit)
+    → base_at (mark_at more).1 ≡ Ok (b, after_base)
+    → digits_at b (after_run is_blank after_base) ≡ Ok (digits, rest) → value_at b digits ≡ Ok bits → width_at size ≡ Ok n
     → based_at size more ≡ Ok (record { bits = take n bits; signed = (mark_at more).0 }, rest)
 unfolding based_at
-seen_value size more digits rest behind_base b n bits e d v w = rw (e, d, v, w) refl
+seen_value size more digits rest after_base b n bits e d v w = rw (e, d, v, w) refl
 
-seen_no_width : (size more digits rest behind_base : List ℕ) (b : Base) (bits : List Bit) (fault : NumberFault)
-    → base_at (mark_at more).1 ≡ Ok (b, behind_base)
-    → digits_at b (behind is_blank behind_base) ≡ Ok (digits, rest) → value_at b digits ≡ Ok bits → width_at size ≡ Err fault
+seen_no_width : (size more digits rest after_base : List ℕ) (b : Base) (bits : List Bit) (fault : NumberFault)
+    → base_at (mark_at more).1 ≡ Ok (b, after_base)
+    → digits_at b (after_run is_blank after_base) ≡ Ok (digits, rest) → value_at b digits ≡ Ok bits → width_at size ≡ Err fault
     → based_at size more ≡ Err fault
 unfolding based_at
-seen_no_width size more digits rest behind_base b bits fault e d v w = rw (e, d, v, w) refl
+seen_no_width size more digits rest after_base b bits fault e d v w = rw (e, d, v, w) refl
 
-seen_no_value : (size more digits rest behind_base : List ℕ) (b : Base) (fault : NumberFault)
-    → base_at (mark_at more).1 ≡ Ok (b, behind_base)
-    → digits_at b (behind is_blank behind_base) ≡ Ok (digits, rest) → value_at b digits ≡ Err fault
+seen_no_value : (size more digits rest after_base : List ℕ) (b : Base) (fault : NumberFault)
+    → base_at (mark_at more).1 ≡ Ok (b, after_base)
+    → digits_at b (after_run is_blank after_base) ≡ Ok (digits, rest) → value_at b digits ≡ Err fault
     → based_at size more ≡ Err fault
 unfolding based_at
-seen_no_value size more digits rest behind_base b fault e d v = rw (e, d, v) refl
+seen_no_value size more digits rest after_base b fault e d v = rw (e, d, v) refl
 
 -- a size of 0 is wrong whatever the digits are
-seen_no_bits : (size more digits rest behind_base : List ℕ) (b : Base) → base_at (mark_at more).1 ≡ Ok (b, behind_base)
-    → digits_at b (behind is_blank behind_base) ≡ Ok (digits, rest) → width_at size ≡ Err BadNumber
+seen_no_bits : (size more digits rest after_base : List ℕ) (b : Base) → base_at (mark_at more).1 ≡ Ok (b, after_base)
+    → digits_at b (after_run is_blank after_base) ≡ Ok (digits, rest) → width_at size ≡ Err BadNumber
     → based_at size more ≡ Err BadNumber
-seen_no_bits size more digits rest behind_base b e d w = elim (cases_Bool (is_too_large b digits)) [
-  | inl large ↦ seen_no_value size more digits rest behind_base b BadNumber e d (value_too_large b digits large)
-  | inr small ↦ seen_no_width size more digits rest behind_base b (bits_at b 128 digits) BadNumber e d (value_fits b digits small) w
+seen_no_bits size more digits rest after_base b e d w = elim (cases_Bool (is_too_large b digits)) [
+  | inl large ↦ seen_no_value size more digits rest after_base b BadNumber e d (value_too_large b digits large)
+  | inr small ↦ seen_no_width size more digits rest after_base b (bits_at b 128 digits) BadNumber e d (value_fits b digits small) w
 ]
 
 -- what the fitting size and value of a number give
-seen_number : (size more digits rest behind_base : List ℕ) (b : Base) (n : ℕ)
-    → base_at (mark_at more).1 ≡ Ok (b, behind_base)
-    → digits_at b (behind is_blank behind_base) ≡ Ok (digits, rest) → is_too_large b digits ≡ false → width_at size ≡ Ok n
+seen_number : (size more digits rest after_base : List ℕ) (b : Base) (n : ℕ)
+    → base_at (mark_at more).1 ≡ Ok (b, after_base)
+    → digits_at b (after_run is_blank after_base) ≡ Ok (digits, rest) → is_too_large b digits ≡ false → width_at size ≡ Ok n
     → n ≤ 128 → based_at size more ≡ Ok (record { bits = bits_at b n digits; signed = (mark_at more).0 }, rest)
-seen_number size more digits rest behind_base b n e d small w most =
-    seen_value size more digits rest behind_base b n (bits_at b 128 digits) e d (value_fits b digits small) w
+seen_number size more digits rest after_base b n e d small w most =
+    seen_value size more digits rest after_base b n (bits_at b 128 digits) e d (value_fits b digits small) w
     ∙ ap (λ (bits : List Bit). Ok (record { bits = bits; signed = (mark_at more).0 }, rest)) (bits_cut b digits n most)
 
-seen_no_digits : (size more behind_base : List ℕ) (b : Base) (fault : NumberFault) → base_at (mark_at more).1 ≡ Ok (b, behind_base)
-    → digits_at b (behind is_blank behind_base) ≡ Err fault → based_at size more ≡ Err fault
+seen_no_digits : (size more after_base : List ℕ) (b : Base) (fault : NumberFault) → base_at (mark_at more).1 ≡ Ok (b, after_base)
+    → digits_at b (after_run is_blank after_base) ≡ Err fault → based_at size more ≡ Err fault
 unfolding based_at
-seen_no_digits size more behind_base b fault e d = rw (e, d) refl
+seen_no_digits size more after_base b fault e d = rw (e, d) refl
 
 seen_no_base : (size more : List ℕ) (fault : NumberFault) → base_at (mark_at more).1 ≡ Err fault → based_at size more ≡ Err fault
 unfolding based_at
@@ -350,38 +350,38 @@ shape_no_base more e s b digits rest is =
     let shape = shape_complete more s b digits rest is in
     ok_err (base_at (mark_at more).1) _ BadNumber shape.base_read e
 
-shape_no_digits : (more behind_base : List ℕ) (b : Base) → base_at (mark_at more).1 ≡ Ok (b, behind_base)
-    → digits_at b (behind is_blank behind_base) ≡ Err BadNumber
+shape_no_digits : (more after_base : List ℕ) (b : Base) → base_at (mark_at more).1 ≡ Ok (b, after_base)
+    → digits_at b (after_run is_blank after_base) ≡ Err BadNumber
     → (s : Bool) (other : Base) (digits rest : List ℕ) → IsBased more s other digits rest → ⊥
-shape_no_digits more behind_base b e d s other digits rest is =
+shape_no_digits more after_base b e d s other digits rest is =
     let shape = shape_complete more s other digits rest is in
-    let pair_is = ok_ok (base_at (mark_at more).1) (other, shape.behind_base) (b, behind_base) shape.base_read e in
-    ok_err (digits_at b (behind is_blank behind_base)) _ BadNumber
-    (sym (ap (λ p. digits_at p.0 (behind is_blank p.1)) pair_is) ∙ shape.digits_read) d
+    let pair_is = ok_ok (base_at (mark_at more).1) (other, shape.after_base) (b, after_base) shape.base_read e in
+    ok_err (digits_at b (after_run is_blank after_base)) _ BadNumber
+    (sym (ap (λ p. digits_at p.0 (after_run is_blank p.1)) pair_is) ∙ shape.digits_read) d
 
-based_value : (text size more digits rest behind_base : List ℕ) (b : Base) → IsSized text (size_of size) more
+based_value : (text size more digits rest after_base : List ℕ) (b : Base) → IsSized text (size_of size) more
     → IsBased more (mark_at more).0 b digits rest
-    → base_at (mark_at more).1 ≡ Ok (b, behind_base) → digits_at b (behind is_blank behind_base) ≡ Ok (digits, rest)
+    → base_at (mark_at more).1 ≡ Ok (b, after_base) → digits_at b (after_run is_blank after_base) ≡ Ok (digits, rest)
     → IsNumber text (based_at size more)
-based_value text size more digits rest behind_base b sized_is is e d =
+based_value text size more digits rest after_base b sized_is is e d =
     let s = (mark_at more).0 in
     elim (cases_Bool (is_too_large b digits)) [
       | inl large ↦ too_large (size_of size) s b more digits rest sized_is is large
-          (seen_no_value size more digits rest behind_base b BadNumber e d (value_too_large b digits large))
+          (seen_no_value size more digits rest after_base b BadNumber e d (value_too_large b digits large))
       | inr small ↦ elim (width_is size) [
         | no_width z w ↦ no_bits (size_of size) s b more digits rest sized_is is z
-            (seen_no_width size more digits rest behind_base b (bits_at b 128 digits) BadNumber e d (value_fits b digits small) w)
+            (seen_no_width size more digits rest after_base b (bits_at b 128 digits) BadNumber e d (value_fits b digits small) w)
         | wide large w ↦ too_wide (size_of size) s b more digits rest sized_is is small large
-            (seen_no_width size more digits rest behind_base b (bits_at b 128 digits) TooWide e d (value_fits b digits small) w)
+            (seen_no_width size more digits rest after_base b (bits_at b 128 digits) TooWide e d (value_fits b digits small) w)
         | fits some most w ↦ based (size_of size) s b more digits rest sized_is is some most small
-            (seen_number size more digits rest behind_base b (width_of (size_of size)) e d small w most)
+            (seen_number size more digits rest after_base b (width_of (size_of size)) e d small w most)
       ]
     ]
 
 based_sound : (text size more : List ℕ) → IsSized text (size_of size) more → IsNumber text (based_at size more)
 based_sound text size more sized_is = elim (base_is (mark_at more).1) [
   | no_base wrong e ↦ no_digits (size_of size) more sized_is (shape_no_base more e) (seen_no_base size more BadNumber e)
-  | base_found letter rest b t l e ↦ elim (digits_is b (behind is_blank rest)) [
+  | base_found letter rest b t l e ↦ elim (digits_is b (after_run is_blank rest)) [
     | absent d ↦ no_digits (size_of size) more sized_is (shape_no_digits more rest b e d)
         (seen_no_digits size more rest b BadNumber e d)
     | found digits last parts is d ↦
@@ -395,11 +395,11 @@ based_sound text size more sized_is = elim (base_is (mark_at more).1) [
 
 -- ---- a number
 
-tick_end : (blanks rest : List ℕ) → list_all is_blank blanks ≡ true → behind is_blank (blanks ++ 39 ∷ rest) ≡ 39 ∷ rest
-tick_end blanks rest all = behind_of is_blank blanks (39 ∷ rest) all refl
+tick_end : (blanks rest : List ℕ) → list_all is_blank blanks ≡ true → after_run is_blank (blanks ++ 39 ∷ rest) ≡ 39 ∷ rest
+tick_end blanks rest all = after_run_of is_blank blanks (39 ∷ rest) all refl
 
-not_ticked : (rest other : List ℕ) → behind is_blank rest ≡ other → ((more : List ℕ) → other ≡ 39 ∷ more → ⊥) → IsTicked rest → ⊥
-not_ticked rest other e h t = h t.rest (sym e ∙ ap (behind is_blank) t.ticked ∙ tick_end t.blanks t.rest t.blank)
+not_ticked : (rest other : List ℕ) → after_run is_blank rest ≡ other → ((more : List ℕ) → other ≡ 39 ∷ more → ⊥) → IsTicked rest → ⊥
+not_ticked rest other e h t = h t.rest (sym e ∙ ap (after_run is_blank) t.ticked ∙ tick_end t.blanks t.rest t.blank)
 
 plain_fits : (digits rest : List ℕ) → decimal_value digits < 2 ^ 32
     → plain_at digits rest ≡ Ok (record { bits = digits_of 32 (decimal_value digits); signed = true }, rest)
@@ -423,8 +423,8 @@ sized_at text [] blanks more is all e = absurd is
 sized_at text (b ∷ digits) blanks more is all e = sized (b ∷ digits) blanks is all e refl
 
 number_from : (text digits rest other : List ℕ) → IsUnsigned digits → Ends is_decimal_byte rest → text ≡ digits ++ rest
-    → behind is_blank rest ≡ other → IsNumber text (number_by digits rest other)
-unfolding number_by
+    → after_run is_blank rest ≡ other → IsNumber text (plain_or_based digits rest other)
+unfolding plain_or_based
 number_from text digits rest [] is ends e b = plain_sound text digits rest is ends (not_ticked rest [] b (λ more x. absurd cc)) e
 number_from text digits rest (first ∷ more) is ends e b = elim (cases_Bool (eqb first 39)) [
   | inl tick ↦
@@ -448,12 +448,12 @@ unfolding number_at
 digit_front first rest h =
     let text = first ∷ rest in
     let front : run is_decimal_byte text ≡ first ∷ run is_decimal_byte rest = front_run first rest (digit_decimal first h) in
-    number_from text (run is_decimal_byte text) (behind is_decimal_byte text) (behind is_blank (behind is_decimal_byte text))
-    (subst IsUnsigned (sym front) (h, run_all is_decimal_byte rest)) (behind_ends is_decimal_byte text)
+    number_from text (run is_decimal_byte text) (after_run is_decimal_byte text) (after_run is_blank (after_run is_decimal_byte text))
+    (subst IsUnsigned (sym front) (h, run_all is_decimal_byte rest)) (after_run_ends is_decimal_byte text)
     (run_parts is_decimal_byte text) refl
 
 at_tick : (rest : List ℕ) → number_at (39 ∷ rest) ≡ based_at [] rest
-unfolding number_at number_by run behind
+unfolding number_at plain_or_based run after_run
 at_tick rest = refl
 
 pub number_sound : (text : List ℕ) → BeginsNumber text → IsNumber text (number_at text)
@@ -472,15 +472,15 @@ unsigned_all [] is = absurd is
 unsigned_all (b ∷ digits) is = and_from (is_decimal_byte b) (list_all is_decimal_byte digits) (digit_decimal b is.0) is.1
 
 number_of : (digits rest : List ℕ) → IsUnsigned digits → Ends is_decimal_byte rest
-    → number_at (digits ++ rest) ≡ number_by digits rest (behind is_blank rest)
+    → number_at (digits ++ rest) ≡ plain_or_based digits rest (after_run is_blank rest)
 unfolding number_at
 number_of digits rest is ends =
     let all = unsigned_all digits is in
-    rw (run_of is_decimal_byte digits rest all ends, behind_of is_decimal_byte digits rest all ends) refl
+    rw (run_of is_decimal_byte digits rest all ends, after_run_of is_decimal_byte digits rest all ends) refl
 
-plain_by : (digits rest other : List ℕ) → behind is_blank rest ≡ other → (IsTicked rest → ⊥)
-    → number_by digits rest other ≡ plain_at digits rest
-unfolding number_by
+plain_by : (digits rest other : List ℕ) → after_run is_blank rest ≡ other → (IsTicked rest → ⊥)
+    → plain_or_based digits rest other ≡ plain_at digits rest
+unfolding plain_or_based
 plain_by digits rest [] e h = refl
 plain_by digits rest (first ∷ more) e h = elim (cases_Bool (eqb first 39)) [
   | inl tick ↦
@@ -494,14 +494,14 @@ plain_by digits rest (first ∷ more) e h = elim (cases_Bool (eqb first 39)) [
 plain_complete : (text digits rest : List ℕ) → IsUnsigned digits → Ends is_decimal_byte rest → (IsTicked rest → ⊥)
     → text ≡ digits ++ rest → number_at text ≡ plain_at digits rest
 plain_complete text digits rest is ends h e = ap number_at e ∙ number_of digits rest is ends
-    ∙ plain_by digits rest (behind is_blank rest) refl h
+    ∙ plain_by digits rest (after_run is_blank rest) refl h
 
 blanks_end : (blanks more : List ℕ) → list_all is_blank blanks ≡ true → Ends is_decimal_byte (blanks ++ 39 ∷ more)
 blanks_end [] more all = refl
 blanks_end (b ∷ blanks) more all = blank_no_decimal b (and_parts (is_blank b) (list_all is_blank blanks) all).0
 
-ticked_by : (digits rest more : List ℕ) → number_by digits rest (39 ∷ more) ≡ based_at digits more
-unfolding number_by
+ticked_by : (digits rest more : List ℕ) → plain_or_based digits rest (39 ∷ more) ≡ based_at digits more
+unfolding plain_or_based
 ticked_by digits rest more = refl
 
 sized_complete : (text : List ℕ) (size : Option ℕ) (more : List ℕ) → IsSized text size more → (digits : List ℕ)
@@ -512,7 +512,7 @@ sized_complete text size more (sized (b ∷ digits) blanks is all e s) =
     let rest = blanks ++ 39 ∷ more in (
       b ∷ digits,
       ap number_at e ∙ number_of (b ∷ digits) rest is (blanks_end blanks more all)
-          ∙ ap (number_by (b ∷ digits) rest) (tick_end blanks more all)
+          ∙ ap (plain_or_based (b ∷ digits) rest) (tick_end blanks more all)
           ∙ ticked_by (b ∷ digits) rest more,
       s,
     )
@@ -521,7 +521,7 @@ no_shape : (size more : List ℕ) → ((s : Bool) (b : Base) (digits rest : List
     → based_at size more ≡ Err BadNumber
 no_shape size more none = elim (base_is (mark_at more).1) [
   | no_base wrong e ↦ seen_no_base size more BadNumber e
-  | base_found letter rest b t l e ↦ elim (digits_is b (behind is_blank rest)) [
+  | base_found letter rest b t l e ↦ elim (digits_is b (after_run is_blank rest)) [
     | absent d ↦ seen_no_digits size more rest b BadNumber e d
     | found digits last parts is d ↦
         let whole : (mark_at more).1 ≡ letter ∷ (run is_blank rest ++ (digits ++ last))
@@ -568,7 +568,7 @@ number_complete text seen (plain_too_large digits rest is ends h e large s) = pl
 number_complete text seen (based size signed b more digits rest z is some most small s) =
     let p = sized_complete text size more z in
     let shape = shape_complete more signed b digits rest is in
-    p.1 ∙ seen_number p.0 more digits rest shape.behind_base b (width_of size) shape.base_read shape.digits_read small
+    p.1 ∙ seen_number p.0 more digits rest shape.after_base b (width_of size) shape.base_read shape.digits_read small
     (width_fits size p.0 p.2 some most) most
     ∙ ap (λ (x : Bool). Ok (record { bits = bits_at b (width_of size) digits; signed = x }, rest)) shape.mark ∙ sym s
 number_complete text seen (no_digits size more z none s) =
@@ -577,17 +577,17 @@ number_complete text seen (no_digits size more z none s) =
 number_complete text seen (no_bits size signed b more digits rest z is w s) =
     let p = sized_complete text size more z in
     let shape = shape_complete more signed b digits rest is in
-    p.1 ∙ seen_no_bits p.0 more digits rest shape.behind_base b shape.base_read shape.digits_read (width_none size p.0 p.2 w)
+    p.1 ∙ seen_no_bits p.0 more digits rest shape.after_base b shape.base_read shape.digits_read (width_none size p.0 p.2 w)
     ∙ sym s
 number_complete text seen (too_large size signed b more digits rest z is large s) =
     let p = sized_complete text size more z in
     let shape = shape_complete more signed b digits rest is in
-    p.1 ∙ seen_no_value p.0 more digits rest shape.behind_base b BadNumber shape.base_read shape.digits_read
+    p.1 ∙ seen_no_value p.0 more digits rest shape.after_base b BadNumber shape.base_read shape.digits_read
     (value_too_large b digits large) ∙ sym s
 number_complete text seen (too_wide size signed b more digits rest z is small w s) =
     let p = sized_complete text size more z in
     let shape = shape_complete more signed b digits rest is in
-    p.1 ∙ seen_no_width p.0 more digits rest shape.behind_base b (bits_at b 128 digits) TooWide shape.base_read shape.digits_read
+    p.1 ∙ seen_no_width p.0 more digits rest shape.after_base b (bits_at b 128 digits) TooWide shape.base_read shape.digits_read
     (value_fits b digits small) (width_wide size p.0 p.2 w) ∙ sym s
 
 pub numbers_once : (text : List ℕ) (seen other : Read) → IsNumber text seen → IsNumber text other → seen ≡ other
@@ -621,7 +621,7 @@ found_from view text (Err e) begins h = tt
 
 pub shorter_from : {A : Type 0} (view : A → FourState × List ℕ) (text : List ℕ) (r : Result A NumberFault) → BeginsNumber text
     → Shows view r (number_at text) → IfOk r (λ x. length (view x).1 < length text)
-shorter_from view text (Ok x) begins h = behind_shorter text (view x).1
+shorter_from view text (Ok x) begins h = after_shorter text (view x).1
     (number_takes text (Ok (view x)) (subst (λ s. IsNumber text s) h (number_sound text begins)))
 shorter_from view text (Err e) begins h = tt
 

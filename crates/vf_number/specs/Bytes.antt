@@ -1,4 +1,4 @@
--- The bytes of a text by what they can stand in, and what is behind a part of it. (docs/LANGUAGE.md, "Text and tokens"; IEEE Std
+-- The bytes of a text by what they can stand in, and what is after a part of it. (docs/LANGUAGE.md, "Text and tokens"; IEEE Std
 -- 1364-2005, clauses 3.2 and 3.5.)
 use Rattle.std.specs.Prelude.{◌≡◌, ℕ, ◌<◌, Bool, false, ◌==◌, ◌&&◌, ◌||◌, nat_le, List, [], ◌∷◌, ◌++◌, length}
 
@@ -15,5 +15,5 @@ Ends class [] = Unit {0}
 Ends class (byte ∷ rest) = class byte ≡ false
 
 -- the text is a front of one byte or more, and the rest
-abbrev pub IsBehind : List ℕ → List ℕ → Type 0
-IsBehind text rest = (front : List ℕ) × (text ≡ front ++ rest) × (0 < length front)
+abbrev pub IsRest : List ℕ → List ℕ → Type 0
+IsRest text rest = (front : List ℕ) × (text ≡ front ++ rest) × (0 < length front)

@@ -1,7 +1,7 @@
 -- What holds of the numbers of every text.
 use Rattle.std.specs.Prelude.{◌≡◌, ℕ, List, Ok}
 use Rattle.vf_fours.specs.Bits.{FourState}
-use Rattle.vf_number.specs.Bytes.{IsBehind}
+use Rattle.vf_number.specs.Bytes.{IsRest}
 use Rattle.vf_number.specs.Numbers.{Read, IsNumber, BeginsNumber}
 
 -- one number or one fault at most stands at the front of a text
@@ -13,6 +13,6 @@ abbrev pub NumbersSome : Type 0
 NumbersSome = ((text : List ℕ) → BeginsNumber text → (seen : Read) × IsNumber text seen)
     × ((text : List ℕ) (seen : Read) → IsNumber text seen → BeginsNumber text)
 
--- a number takes one byte or more, and leaves what is behind it
+-- a number takes one byte or more, and leaves what is after it
 abbrev pub NumbersTake : Type 0
-NumbersTake = (text : List ℕ) (value : FourState) (rest : List ℕ) → IsNumber text (Ok (value, rest)) → IsBehind text rest
+NumbersTake = (text : List ℕ) (value : FourState) (rest : List ℕ) → IsNumber text (Ok (value, rest)) → IsRest text rest

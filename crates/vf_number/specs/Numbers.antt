@@ -86,7 +86,7 @@ digit_bits base byte =
     if is_z byte then replicate (digit_width base) Z else
     digits_of (digit_width base) (digit_value byte)
 
--- the bits of digits, least first: those of the digits behind a digit stand below its own; a `_` has none
+-- the bits of digits, least first: those of the digits after a digit stand below its own; a `_` has none
 unfoldable pub spelled_bits : Base → List ℕ → List Bit
 spelled_bits base [] = []
 spelled_bits base (byte ∷ rest) = spelled_bits base rest ++ (if is_underscore byte then [] else digit_bits base byte)
@@ -124,7 +124,7 @@ pub data IsSized (text : List ℕ) (size : Option ℕ) (rest : List ℕ) : Type 
   sized : (digits blanks : List ℕ) → IsUnsigned digits → list_all is_blank blanks ≡ true
       → text ≡ digits ++ (blanks ++ 39 ∷ rest) → size ≡ Some (decimal_value digits) → IsSized text size rest
 
--- what stands behind the `'`: an `s` in either case or none, a base, blanks and digits
+-- what stands after the `'`: an `s` in either case or none, a base, blanks and digits
 pub data IsBased (text : List ℕ) (signed : Bool) (base : Base) (digits rest : List ℕ) : Type 0 where
   unmarked : (letter : ℕ) (blanks : List ℕ) → base_of letter ≡ Some base → list_all is_blank blanks ≡ true
       → IsDigits base digits rest → text ≡ letter ∷ (blanks ++ (digits ++ rest)) → signed ≡ false
@@ -138,7 +138,7 @@ abbrev pub width_of : Option ℕ → ℕ
 width_of None = 32
 width_of (Some n) = n
 
--- a `'` behind any blanks
+-- a `'` after any blanks
 pub record IsTicked (text : List ℕ) : Type 0 where
   pub blanks : List ℕ
   pub rest : List ℕ
@@ -156,18 +156,18 @@ pub data IsNumber (text : List ℕ) (seen : Read) : Type 0 where
       → seen ≡ Ok (record { bits = digits_of 32 (decimal_value digits); signed = true }, rest) → IsNumber text seen
   plain_too_large : (digits rest : List ℕ) → IsUnsigned digits → Ends is_decimal_byte rest → (IsTicked rest → ⊥)
       → text ≡ digits ++ rest → 2 ^ 32 ≤ decimal_value digits → seen ≡ Err BadNumber → IsNumber text seen
-  based : (size : Option ℕ) (signed : Bool) (base : Base) (behind digits rest : List ℕ) → IsSized text size behind
-      → IsBased behind signed base digits rest → 1 ≤ width_of size → width_of size ≤ 128 → is_too_large base digits ≡ false
+  based : (size : Option ℕ) (signed : Bool) (base : Base) (after digits rest : List ℕ) → IsSized text size after
+      → IsBased after signed base digits rest → 1 ≤ width_of size → width_of size ≤ 128 → is_too_large base digits ≡ false
       → seen ≡ Ok (record { bits = bits_at base (width_of size) digits; signed = signed }, rest) → IsNumber text seen
-  no_digits : (size : Option ℕ) (behind : List ℕ) → IsSized text size behind
-      → ((signed : Bool) (base : Base) (digits rest : List ℕ) → IsBased behind signed base digits rest → ⊥)
+  no_digits : (size : Option ℕ) (after : List ℕ) → IsSized text size after
+      → ((signed : Bool) (base : Base) (digits rest : List ℕ) → IsBased after signed base digits rest → ⊥)
       → seen ≡ Err BadNumber → IsNumber text seen
-  no_bits : (size : Option ℕ) (signed : Bool) (base : Base) (behind digits rest : List ℕ) → IsSized text size behind
-      → IsBased behind signed base digits rest → width_of size ≡ 0 → seen ≡ Err BadNumber → IsNumber text seen
-  too_large : (size : Option ℕ) (signed : Bool) (base : Base) (behind digits rest : List ℕ) → IsSized text size behind
-      → IsBased behind signed base digits rest → is_too_large base digits ≡ true → seen ≡ Err BadNumber → IsNumber text seen
-  too_wide : (size : Option ℕ) (signed : Bool) (base : Base) (behind digits rest : List ℕ) → IsSized text size behind
-      → IsBased behind signed base digits rest → is_too_large base digits ≡ false → 128 < width_of size → seen ≡ Err TooWide
+  no_bits : (size : Option ℕ) (signed : Bool) (base : Base) (after digits rest : List ℕ) → IsSized text size after
+      → IsBased after signed base digits rest → width_of size ≡ 0 → seen ≡ Err BadNumber → IsNumber text seen
+  too_large : (size : Option ℕ) (signed : Bool) (base : Base) (after digits rest : List ℕ) → IsSized text size after
+      → IsBased after signed base digits rest → is_too_large base digits ≡ true → seen ≡ Err BadNumber → IsNumber text seen
+  too_wide : (size : Option ℕ) (signed : Bool) (base : Base) (after digits rest : List ℕ) → IsSized text size after
+      → IsBased after signed base digits rest → is_too_large base digits ≡ false → 128 < width_of size → seen ≡ Err TooWide
       → IsNumber text seen
 
 -- a number begins with a digit or with the `'` of a based one

@@ -14,7 +14,7 @@ use Rattle.vf_number.specs.declared.classes.Class.TheVariants.{Blank, Decimal, U
 use Rattle.vf_number.specs.declared.fault.NumberFault.{NumberFault}
 use Rattle.vf_number.specs.declared.fault.NumberFault.TheVariants.{BadNumber, TooWide}
 use Rattle.vf_number.specs.Bytes.{is_blank}
-use Rattle.vf_number.specs.Runs.{run, behind}
+use Rattle.vf_number.specs.Runs.{run, after_run}
 use Rattle.vf_number.specs.Numbers.{Read, is_decimal_byte, is_underscore, is_byte_of, is_digit_of, is_unknown, base_of, decimal_value, is_unknown_at, digit_bits, digit_width, bits_at, is_too_large}
 
 -- ---- classes and answers
@@ -76,11 +76,11 @@ AreDigits Octal digits = list_all (is_byte_of Octal) digits ≡ true
 AreDigits bases.Decimal digits = is_unknown_at digits ≡ false → list_all is_decimal_byte digits ≡ true
 AreDigits Hex digits = list_all (is_byte_of Hex) digits ≡ true
 
--- the low 128 bits of a value with one more digit behind it
+-- the low 128 bits of a value with one more digit after it
 unfoldable pub with_digit : Base → ℕ → List Bit → List Bit
 with_digit base byte bits = if is_underscore byte then bits else digit_bits base byte ++ take (128 - digit_width base) bits
 
--- with all digits behind it, one after the other
+-- with all digits after it, one after the other
 unfoldable pub with_digits : Base → List ℕ → List Bit → List Bit
 with_digits base [] bits = bits
 with_digits base (byte ∷ rest) bits = with_digits base rest (with_digit base byte bits)
@@ -88,8 +88,8 @@ with_digits base (byte ∷ rest) bits = with_digits base rest (with_digit base b
 unfoldable pub digits_at : Base → List ℕ → Result (List ℕ × List ℕ) NumberFault
 digits_at base [] = Err BadNumber
 digits_at base (first ∷ rest) =
-    if is_digit_of base first then Ok (run (is_byte_of base) (first ∷ rest), behind (is_byte_of base) (first ∷ rest)) else
-    if is_decimal base && is_unknown first then Ok (first ∷ run is_underscore rest, behind is_underscore rest) else Err BadNumber
+    if is_digit_of base first then Ok (run (is_byte_of base) (first ∷ rest), after_run (is_byte_of base) (first ∷ rest)) else
+    if is_decimal base && is_unknown first then Ok (first ∷ run is_underscore rest, after_run is_underscore rest) else Err BadNumber
 
 -- the low 128 bits of digits
 unfoldable pub value_at : Base → List ℕ → Result (List Bit) NumberFault
@@ -103,7 +103,7 @@ cut value width signed = record { bits = take width value.bits; signed = signed 
 unfoldable pub based_at : List ℕ → List ℕ → Read
 based_at size text = do
   base ← base_at (mark_at text).1
-  digits ← digits_at base.0 (behind is_blank base.1)
+  digits ← digits_at base.0 (after_run is_blank base.1)
   bits ← value_at base.0 digits.0
   width ← width_at size
   Ok (record { bits = take width bits; signed = (mark_at text).0 }, digits.1)
@@ -114,9 +114,9 @@ plain_at digits rest =
     if nat_lt n (2 ^ 32) then Ok (record { bits = digits_of 32 n; signed = true }, rest) else Err BadNumber
 
 -- the number of digits, what follows them, and what follows with no blank before it
-unfoldable pub number_by : List ℕ → List ℕ → List ℕ → Read
-number_by digits rest [] = plain_at digits rest
-number_by digits rest (first ∷ more) = if first == 39 then based_at digits more else plain_at digits rest
+unfoldable pub plain_or_based : List ℕ → List ℕ → List ℕ → Read
+plain_or_based digits rest [] = plain_at digits rest
+plain_or_based digits rest (first ∷ more) = if first == 39 then based_at digits more else plain_at digits rest
 
 unfoldable pub number_at : List ℕ → Read
-number_at text = number_by (run is_decimal_byte text) (behind is_decimal_byte text) (behind is_blank (behind is_decimal_byte text))
+number_at text = plain_or_based (run is_decimal_byte text) (after_run is_decimal_byte text) (after_run is_blank (after_run is_decimal_byte text))

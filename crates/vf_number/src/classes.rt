@@ -19,7 +19,7 @@ pub fn is_digit(byte: u8) -> bool
 pub fn is_blank(byte: u8) -> bool
     ensures { result ≡ is_blank byte }
 {
-    byte == b' ' || byte == b'\t' || byte == b'\n' || byte == 0x0c || byte == b'\r'
+    matches!(byte, b' ' | b'\t' | b'\n' | 0x0c | b'\r')
 }
 
 /// Whether a number begins with the byte (clause 3.5.1).
@@ -33,14 +33,14 @@ pub fn begins_number(byte: u8) -> bool
 pub(crate) fn is_x(byte: u8) -> bool
     ensures { result ≡ is_x byte }
 {
-    byte == b'x' || byte == b'X'
+    matches!(byte, b'x' | b'X')
 }
 
 /// Whether a byte is the digit z, which `?` is too.
 pub(crate) fn is_z(byte: u8) -> bool
     ensures { result ≡ is_z byte }
 {
-    byte == b'z' || byte == b'Z' || byte == b'?'
+    matches!(byte, b'z' | b'Z' | b'?')
 }
 
 /// Whether a byte is the digit x or z.

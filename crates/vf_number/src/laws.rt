@@ -2,7 +2,7 @@
 
 ghost use Rattle.vf_number.specs.Laws.{NumbersOnce, NumbersSome, NumbersTake};
 
-/// One number or one fault at most stands at the front of a text.
+/// At most one number or fault stands at the front of a text.
 pub fn numbers_once()
     ensures { NumbersOnce }
 {}
@@ -12,7 +12,7 @@ pub fn numbers_some()
     ensures { NumbersSome }
 {}
 
-/// A number takes one byte or more, and leaves what is behind it.
+/// A number takes at least one byte, and leaves what follows it.
 pub fn numbers_take()
     ensures { NumbersTake }
 {}

@@ -6,7 +6,7 @@ ghost use Rattle.std.specs.List.{list_all};
 ghost use Rattle.vf_fours.specs.Numbers.{digits_of};
 ghost use Rattle.vf_number.specs.declared.bases.Base.TheVariants.{Hex, Decimal};
 ghost use Rattle.vf_number.specs.Numbers.{is_decimal_byte, is_byte_of, is_digit_of, is_unknown, base_of, fill_of, is_unknown_at, digit_width, digit_bits, decimal_value, bits_at, IsNumber, BeginsNumber};
-ghost use Rattle.vf_number.specs.Reading.{Shows, AreDigits, is_decimal, below, appended, with_digit, width_at, mark_at, base_at, digits_at, value_at, cut, based_at, plain_at, number_by, number_at};
+ghost use Rattle.vf_number.specs.Reading.{Shows, AreDigits, is_decimal, below, appended, with_digit, width_at, mark_at, base_at, digits_at, value_at, cut, based_at, plain_at, plain_or_based, number_at};
 
 use crate::bases::Base;
 use crate::classes::{Class, is_digit_of, is_unknown, is_x, is_z};
@@ -15,7 +15,7 @@ use vf_fours::{Bit, Fours, WIDEST};
 
 // ---- decimal digits
 
-/// A number with one more decimal digit behind it, or as it is before a `_`; None above 2^128 - 1.
+/// A number with one more decimal digit appended, or unchanged by a `_`; None above 2^128 - 1.
 #[tactic(auto, unfolding(crate::specs::Reading::appended), using(crate::proofs::Decimals::digit_is))]
 fn appended(number: u128, byte: u8) -> Option<u128>
     requires { is_decimal_byte byte ≡ true }
@@ -37,12 +37,12 @@ fn decimal(digits: &[u8]) -> Option<u128>
 {
     let mut number: u128 = 0;
     let mut rest = digits;
-    while let Some((byte, after)) = rest.split_first() {
+    while let Some((byte, more)) = rest.split_first() {
         let Some(next) = appended(number, *byte) else {
             return None;
         };
         number = next;
-        rest = after;
+        rest = more;
     }
     Some(number)
 }
@@ -132,12 +132,7 @@ fn is_unknown_at(digits: &[u8]) -> bool
 fn is_decimal(base: Base) -> bool
     ensures { result ≡ is_decimal base }
 {
-    match base {
-        Base::Binary => false,
-        Base::Octal => false,
-        Base::Decimal => true,
-        Base::Hex => false,
-    }
+    matches!(base, Base::Decimal)
 }
 
 /// How many bits a digit of the base has.
@@ -185,7 +180,7 @@ fn digit(base: Base, byte: u8) -> Fours
     known(width, false, u128::from(digit_value(byte)))
 }
 
-/// The low 128 bits of a value with one more digit behind it, or as it is before a `_`.
+/// The low 128 bits of a value with one more digit appended, or the value unchanged by a `_`.
 fn with_digit(base: Base, value: Fours, byte: u8) -> Fours
     requires base { is_decimal base ≡ false }
     requires digit { is_byte_of base byte ≡ true }
@@ -210,9 +205,9 @@ fn spelled(base: Base, digits: &[u8]) -> Fours
 {
     let mut value = filled(WIDEST, fill(digits));
     let mut rest = digits;
-    while let Some((byte, after)) = rest.split_first() {
+    while let Some((byte, more)) = rest.split_first() {
         value = with_digit(base, value, *byte);
-        rest = after;
+        rest = more;
     }
     value
 }
@@ -267,16 +262,12 @@ fn mark<'a>(text: &'a [u8]) -> (bool, &'a [u8])
 fn base_of(letter: u8) -> Option<Base>
     ensures { result ≡ base_of letter }
 {
-    if letter == b'b' || letter == b'B' {
-        Some(Base::Binary)
-    } else if letter == b'o' || letter == b'O' {
-        Some(Base::Octal)
-    } else if letter == b'd' || letter == b'D' {
-        Some(Base::Decimal)
-    } else if letter == b'h' || letter == b'H' {
-        Some(Base::Hex)
-    } else {
-        None
+    match letter {
+        b'b' | b'B' => Some(Base::Binary),
+        b'o' | b'O' => Some(Base::Octal),
+        b'd' | b'D' => Some(Base::Decimal),
+        b'h' | b'H' => Some(Base::Hex),
+        _ => None,
     }
 }
 
@@ -315,7 +306,7 @@ fn digits<'a>(base: Base, text: &'a [u8]) -> Result<(&'a [u8], &'a [u8]), Number
     }
 }
 
-/// The number of a size, which may be empty, and of what follows its `'`.
+/// The number that a size, which may be empty, and the text after its `'` write, and what follows it.
 #[tactic(auto, unfolding(crate::specs::Reading::based_at))]
 fn based<'a>(size: &[u8], text: &'a [u8]) -> Result<(Fours, &'a [u8]), NumberFault>
     requires { list_all is_decimal_byte size.now ≡ true }
@@ -345,17 +336,18 @@ fn plain<'a>(digits: &[u8], rest: &'a [u8]) -> Result<(Fours, &'a [u8]), NumberF
     Ok((known(32, true, number), rest))
 }
 
-/// The number of digits, which may be none, what follows them, and what follows with no blank before it.
-#[tactic(auto, unfolding(crate::specs::Reading::number_by))]
-fn number_by<'a>(
+/// The number that begins with these digits, which may be none: a based one where a `'` stands after the blanks that follow
+/// them, and else a plain one.
+#[tactic(auto, unfolding(crate::specs::Reading::plain_or_based))]
+fn plain_or_based<'a>(
     digits: &[u8],
     rest: &'a [u8],
-    behind: &'a [u8],
+    after: &'a [u8],
 ) -> Result<(Fours, &'a [u8]), NumberFault>
     requires { list_all is_decimal_byte digits.now ≡ true }
-    ensures { Shows (λ r. (r.0, r.1.now)) result (number_by digits.now rest.now behind.now) }
+    ensures { Shows (λ r. (r.0, r.1.now)) result (plain_or_based digits.now rest.now after.now) }
 {
-    match behind {
+    match after {
         [] => plain(digits, rest),
         [first, more @ ..] => {
             if *first == b'\'' {
@@ -366,17 +358,18 @@ fn number_by<'a>(
     }
 }
 
-/// As `number`, equal to the function on lists.
+/// As [`number`], by a contract that is one equation.
 #[tactic(auto, unfolding(crate::specs::Reading::number_at))]
 fn number_at<'a>(text: &'a [u8]) -> Result<(Fours, &'a [u8]), NumberFault>
     ensures { Shows (λ r. (r.0, r.1.now)) result (number_at text.now) }
 {
     let (digits, rest) = Class::Decimal.split(text);
-    let (_, behind) = Class::Blank.split(rest);
-    number_by(digits, rest, behind)
+    let (_, after) = Class::Blank.split(rest);
+    plain_or_based(digits, rest, after)
 }
 
-/// The number at the front of a text where one begins, and the bytes behind it.
+/// The number at the front of a text where one begins (clause 3.5), and the bytes after it; its width is 1 to 128 bits. A
+/// refusal is exactly the number's fault. No memory is taken.
 pub fn number<'a>(text: &'a [u8]) -> Result<(Fours, &'a [u8]), NumberFault>
     requires { BeginsNumber text.now }
     ensures found { IfOk result (λ r. IsNumber text.now (Ok (r.0, r.1.now))) }

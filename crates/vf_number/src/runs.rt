@@ -1,7 +1,17 @@
-//! Runs of bytes of one class at the front of a text.
+//! The first byte of a text, and runs of bytes of one class at its front.
 
-ghost use Rattle.std.specs.Prelude.{◌≡◌, ℕ, Bool, ◌++◌, length, take_while};
-ghost use Rattle.vf_number.specs.Runs.{run, behind};
+ghost use Rattle.std.specs.Prelude.{◌≡◌, ◌≤◌, ℕ, Bool, ◌++◌, length, take_while};
+ghost use Rattle.vf_number.specs.Runs.{run, after_run, begins_with};
+
+/// Whether a text begins with a byte.
+pub fn begins_with(byte: u8, text: &[u8]) -> bool
+    ensures { result ≡ begins_with byte text.now }
+{
+    match text {
+        [first, ..] => *first == byte,
+        [] => false,
+    }
+}
 
 /// A class of bytes of which runs are read.
 pub trait ByteClass: Copy {
@@ -19,12 +29,21 @@ pub trait ByteClass: Copy {
         text.iter().take_while(|byte| self.contains(**byte)).count()
     }
 
-    /// The longest run of bytes of the class at the front of a text, and the bytes behind it.
+    /// The longest run of bytes of the class at the front of a text, and the bytes after it.
     final fn split<'a>(self, text: &'a [u8]) -> (&'a [u8], &'a [u8])
         ensures front { result.0.now ≡ run (holds self) text.now }
-        ensures rest { result.1.now ≡ behind (holds self) text.now }
+        ensures rest { result.1.now ≡ after_run (holds self) text.now }
         ensures whole { text.now ≡ result.0.now ++ result.1.now }
     {
         text.split_at(self.run_length(text))
+    }
+
+    /// The bytes after the longest run of bytes of the class at the front of a text.
+    final fn skip<'a>(self, text: &'a [u8]) -> &'a [u8]
+        ensures rest { result.now ≡ after_run (holds self) text.now }
+        ensures within { length result.now ≤ length text.now }
+    {
+        let (_, rest) = self.split(text);
+        rest
     }
 }

@@ -2,11 +2,11 @@
 //! a sign, `W` a word, `Y` a system name, `Q` a string; `#7@1:1` is a plain number, and `#4s'12/5@1:1` one of 4 bits with a
 //! sign, by its planes of ones and of unknown bits. A first fault is spelled by its number and its place, as `!6@2:1`.
 
-use vf_lex::{LexFault, Token, TokenKind, tokens};
 use std::alloc::{AllocError, Global};
 use std::test::Fail;
 use vf_base::{Memory, Place, write_decimal};
 use vf_fours::Fours;
+use vf_lex::{LexFault, Token, TokenKind, tokens};
 
 /// More bytes than any text of a test has.
 const LONGEST: usize = 8_388_608;
@@ -332,16 +332,19 @@ fn uses(alloc: Global, length: usize, count: u32) -> Result<Vec<u8>, AllocError>
     Ok(text)
 }
 
-/// Sixteen macros, of which each but the last uses the next five times, and a use of the first.
+/// Sixteen macros, of which each but the last uses the next five times, and a use of the first: 398 bytes.
 fn multiplied(alloc: Global) -> Result<String, AllocError> {
     let mut text = String::new(alloc);
-    for number in 1..16u32 {
-        let next = number.saturating_add(1);
+    for letter in b'A'..b'P' {
+        let name = char::from(letter);
+        let next = char::from(letter.saturating_add(1));
         text.push_str(format!(in alloc;
-            "`define M{number} `M{next}`M{next}`M{next}`M{next}`M{next}\n"
+            "`define {name} `{next}`{next}`{next}`{next}`{next}\n"
         )?.as_str())?;
     }
-    text.push_str("`define M16\n x `M1")?;
+    text.push_str(
+        "`define P/* a comment, so that each of the many uses of P reads some bytes */\n x `A",
+    )?;
     Ok(text)
 }
 
@@ -362,9 +365,15 @@ fn reads_so_many_bytes_of_macros(rt: HostRuntime) -> Result<(), Fail> {
         spelled(rt.alloc(), less.as_slice())?.as_slice(),
         b"N:x@2:130".as_slice()
     );
-    let multiplied = multiplied(rt.alloc())?;
+    Ok(())
+}
+
+#[test]
+fn refuses_uses_that_multiply(rt: HostRuntime) -> Result<(), Fail> {
+    let text = multiplied(rt.alloc())?;
+    assert_eq!(rt; text.len(), 398);
     assert_eq!(rt;
-        spelled(rt.alloc(), multiplied.as_bytes())?.as_slice(),
+        spelled(rt.alloc(), text.as_bytes())?.as_slice(),
         b"!10@17:4".as_slice()
     );
     Ok(())

@@ -1,7 +1,11 @@
-use vf_lexeme::{Lexeme, LexemeFault, OpenFault, Passed, TokenKind, lexeme, name, passed};
+//! Lexemes at the front of texts that are taken, and what is passed over in texts that are not, each with how long it is.
+
 use std::alloc::{AllocError, Global};
 use std::test::Fail;
 use vf_fours::Fours;
+use vf_lexeme::{
+    Lexeme, LexemeFault, OpenFault, Passed, TokenKind, after_line, lexeme, name, passed,
+};
 
 /// How long the lexeme at the front of a text is; 0 where there is a fault.
 fn length_of(alloc: Global, text: &[u8]) -> usize {
@@ -265,6 +269,14 @@ fn passes_over_text(rt: HostRuntime) -> Result<(), Fail> {
         ("$a", 0),
     ] {
         assert_eq!(rt; name(text.as_bytes()).0.len(), length, "at {text}");
+    }
+    Ok(())
+}
+
+#[test]
+fn goes_to_the_end_of_the_line(rt: HostRuntime) -> Result<(), Fail> {
+    for (text, rest) in [("", ""), ("a", ""), ("a\r\nb\n", "\nb\n"), ("\n", "\n")] {
+        assert_eq!(rt; after_line(text.as_bytes()), rest.as_bytes(), "at {text}");
     }
     Ok(())
 }

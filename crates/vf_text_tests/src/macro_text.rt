@@ -1,7 +1,7 @@
 //! Bytes with the text of a macro that they begin with, and its rest.
 
-use vf_macro::macro_text;
 use std::test::Fail;
+use vf_macro::macro_text;
 
 /// Bytes, the text and the rest.
 type Row = (&'static str, &'static str, &'static str);

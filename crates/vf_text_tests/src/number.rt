@@ -1,57 +1,62 @@
-use vf_number::{NumberFault, begins_number, number};
-use std::test::Fail;
+//! Numbers at the front of texts, and their faults. A number is spelled by its width, with `s` where it is signed, and its planes
+//! in hex: the bits that are 1 or x, and those that are x or z.
 
-/// A text, how long its number is, the width, whether it is signed, and the planes of its bits (ones, then bits not known).
-type Row = (&'static str, usize, u32, bool, u128, u128);
+use std::alloc::{AllocError, Global};
+use std::test::Fail;
+use vf_fours::Fours;
+use vf_number::{NumberFault, begins_number, begins_with, is_blank, is_digit, number};
+
+/// A text, how long its number is, and the number.
+type Row = (&'static str, usize, &'static str);
 
 #[rattlefmt::skip]
 fn small_numbers() -> [Row; 26] {
     [
-        ("0", 1, 32, true, 0, 0),
-        ("12_3_;", 5, 32, true, 0x7b, 0),
-        ("4294967295", 10, 32, true, 0xffffffff, 0),
-        ("0004294967295 ", 13, 32, true, 0xffffffff, 0),
-        ("7 h", 1, 32, true, 7, 0),
-        ("7e", 1, 32, true, 7, 0),
-        ("4'b1010", 7, 4, false, 0xa, 0),
-        ("4'B1_0_", 7, 4, false, 2, 0),
-        ("4 'b10", 6, 4, false, 2, 0),
-        ("4 \n'b\t\r10", 9, 4, false, 2, 0),
-        ("8'hfF+", 5, 8, false, 0xff, 0),
-        ("8'SHa", 5, 8, true, 0xa, 0),
-        ("'sd5", 4, 32, true, 5, 0),
-        ("'o17", 4, 32, false, 0xf, 0),
-        ("9'O777", 6, 9, false, 0x1ff, 0),
-        ("5'o777", 6, 5, false, 0x1f, 0),
-        ("4'hfa5", 6, 4, false, 5, 0),
-        ("8'd300", 6, 8, false, 0x2c, 0),
-        ("8'b1x", 5, 8, false, 3, 1),
-        ("8'bx1", 5, 8, false, 0xff, 0xfe),
-        ("8'bZ_1", 6, 8, false, 1, 0xfe),
-        ("8'b?", 4, 8, false, 0, 0xff),
-        ("8'hX", 4, 8, false, 0xff, 0xff),
-        ("8'h1x", 5, 8, false, 0x1f, 0xf),
-        ("12'o?7", 6, 12, false, 7, 0xff8),
-        ("2'bx11", 6, 2, false, 3, 0),
+        ("0", 1, "32s 0 0"),
+        ("12_3_;", 5, "32s 7b 0"),
+        ("4294967295", 10, "32s ffffffff 0"),
+        ("0004294967295 ", 13, "32s ffffffff 0"),
+        ("7 h", 1, "32s 7 0"),
+        ("7e", 1, "32s 7 0"),
+        ("4'b1010", 7, "4 a 0"),
+        ("4'B1_0_", 7, "4 2 0"),
+        ("4 'b10", 6, "4 2 0"),
+        ("4 \n'b\t\r10", 9, "4 2 0"),
+        ("8'hfF+", 5, "8 ff 0"),
+        ("8'SHa", 5, "8s a 0"),
+        ("'sd5", 4, "32s 5 0"),
+        ("'o17", 4, "32 f 0"),
+        ("9'O777", 6, "9 1ff 0"),
+        ("5'o777", 6, "5 1f 0"),
+        ("4'hfa5", 6, "4 5 0"),
+        ("8'd300", 6, "8 2c 0"),
+        ("8'b1x", 5, "8 3 1"),
+        ("8'bx1", 5, "8 ff fe"),
+        ("8'bZ_1", 6, "8 1 fe"),
+        ("8'b?", 4, "8 0 ff"),
+        ("8'hX", 4, "8 ff ff"),
+        ("8'h1x", 5, "8 1f f"),
+        ("12'o?7", 6, "12 7 ff8"),
+        ("2'bx11", 6, "2 3 0"),
     ]
 }
 
 #[rattlefmt::skip]
 fn large_numbers() -> [Row; 13] {
     [
-        ("8'dx", 4, 8, false, 0xff, 0xff),
-        ("8'sdZ__;", 7, 8, true, 0, 0xff),
-        ("8'd?1", 4, 8, false, 0, 0xff),
-        ("8'd1x", 4, 8, false, 1, 0),
-        ("4'b102", 5, 4, false, 2, 0),
-        ("8'o18", 4, 8, false, 1, 0),
-        ("8'hag", 4, 8, false, 0xa, 0),
-        ("1_28'h0", 7, 128, false, 0, 0),
-        ("128'hffff_ffff_ffff_ffff_ffff_ffff_ffff_ffff", 44, 128, false, 0xffffffffffffffffffffffffffffffff, 0),
-        ("128'hx", 6, 128, false, 0xffffffffffffffffffffffffffffffff, 0xffffffffffffffffffffffffffffffff),
-        ("128'h1ffffffffffffffffffffffffffffffff", 38, 128, false, 0xffffffffffffffffffffffffffffffff, 0),
-        ("128'sd340282366920938463463374607431768211455", 45, 128, true, 0xffffffffffffffffffffffffffffffff, 0),
-        ("8'd340282366920938463463374607431768211455", 42, 8, false, 0xff, 0),
+        ("8'dx", 4, "8 ff ff"),
+        ("8'sdZ__;", 7, "8s 0 ff"),
+        ("8'd?1", 4, "8 0 ff"),
+        ("8'd1x", 4, "8 1 0"),
+        ("4'b102", 5, "4 2 0"),
+        ("8'o18", 4, "8 1 0"),
+        ("8'hag", 4, "8 a 0"),
+        ("1_28'h0", 7, "128 0 0"),
+        ("128'hffff_ffff_ffff_ffff_ffff_ffff_ffff_ffff", 44, "128 ffffffffffffffffffffffffffffffff 0"),
+        ("128'hx", 6, "128 ffffffffffffffffffffffffffffffff ffffffffffffffffffffffffffffffff"),
+        ("128'h1ffffffffffffffffffffffffffffffff", 38, "128 ffffffffffffffffffffffffffffffff 0"),
+        ("128'sd340282366920938463463374607431768211455", 45, "128s ffffffffffffffffffffffffffffffff 0"),
+        ("8'd340282366920938463463374607431768211455", 42, "8 ff 0"),
     ]
 }
 
@@ -82,27 +87,8 @@ fn faults() -> [(&'static str, NumberFault); 21] {
     ]
 }
 
-/// The number at the front of a text, as the parts of a row.
-fn found(text: &[u8]) -> Option<(usize, u32, bool, u128, u128)> {
-    let [first, ..] = text else {
-        return None;
-    };
-    if !begins_number(*first) {
-        return None;
-    }
-    let Ok((value, rest)) = number(text) else {
-        return None;
-    };
-    Some((
-        text.len() - rest.len(),
-        value.width(),
-        value.is_signed(),
-        value.ones(),
-        value.unknown(),
-    ))
-}
-
-fn fault(text: &[u8]) -> Option<NumberFault> {
+/// What stands at the front of a text: how long the number is and its value, or its fault; None where no number begins.
+fn read(text: &[u8]) -> Option<Result<(usize, Fours), NumberFault>> {
     let [first, ..] = text else {
         return None;
     };
@@ -110,25 +96,39 @@ fn fault(text: &[u8]) -> Option<NumberFault> {
         return None;
     }
     match number(text) {
-        Ok(_) => None,
-        Err(fault) => Some(fault),
+        Ok((value, rest)) => Some(Ok((text.len() - rest.len(), value))),
+        Err(fault) => Some(Err(fault)),
     }
 }
 
-#[test]
-fn reads_small_numbers(rt: HostRuntime) -> Result<(), Fail> {
-    for (text, length, width, signed, ones, unknown) in small_numbers() {
-        let wanted = Some((length, width, signed, ones, unknown));
-        assert_eq!(rt; found(text.as_bytes()), wanted, "at {text}");
-    }
-    Ok(())
+/// How long the number at the front of a text is, and how it is spelled.
+fn found(alloc: Global, text: &[u8]) -> Result<Option<(usize, String)>, AllocError> {
+    let Some(Ok((length, value))) = read(text) else {
+        return Ok(None);
+    };
+    let mark = if value.is_signed() { "s" } else { "" };
+    let spelled = format!(in alloc;
+        "{}{} {:x} {:x}",
+        value.width(),
+        mark,
+        value.ones(),
+        value.unknown()
+    )?;
+    Ok(Some((length, spelled)))
+}
+
+fn fault(text: &[u8]) -> Option<NumberFault> {
+    read(text)?.err()
 }
 
 #[test]
-fn reads_large_numbers(rt: HostRuntime) -> Result<(), Fail> {
-    for (text, length, width, signed, ones, unknown) in large_numbers() {
-        let wanted = Some((length, width, signed, ones, unknown));
-        assert_eq!(rt; found(text.as_bytes()), wanted, "at {text}");
+fn reads_numbers(rt: HostRuntime) -> Result<(), Fail> {
+    for (text, length, spelled) in small_numbers().into_iter().chain(large_numbers()) {
+        let Some((found_length, found_spelled)) = found(rt.alloc(), text.as_bytes())? else {
+            panic!(rt; "no number at {text}");
+        };
+        assert_eq!(rt; found_length, length, "at {text}");
+        assert_eq!(rt; found_spelled.as_str(), spelled, "at {text}");
     }
     Ok(())
 }
@@ -139,8 +139,24 @@ fn refuses_numbers(rt: HostRuntime) -> Result<(), Fail> {
         assert_eq!(rt; fault(text.as_bytes()), Some(wanted), "at {text}");
     }
     for text in ["", "a1", "_1", " 1", "-1", "x", "h1"] {
-        assert_eq!(rt; fault(text.as_bytes()), None, "at {text}");
-        assert_eq!(rt; found(text.as_bytes()), None, "at {text}");
+        assert!(rt; read(text.as_bytes()).is_none(), "at {text}");
+    }
+    Ok(())
+}
+
+#[test]
+fn tells_first_bytes(rt: HostRuntime) -> Result<(), Fail> {
+    assert!(rt; begins_with(b'a', b"ab"));
+    assert!(rt; !begins_with(b'b', b"ab"));
+    assert!(rt; !begins_with(b'a', b""));
+    for byte in [b' ', b'\t', b'\n', b'\r', 12] {
+        assert!(rt; is_blank(byte), "at {byte}");
+    }
+    for byte in [b'0', b'9'] {
+        assert!(rt; is_digit(byte), "at {byte}");
+    }
+    for byte in [11, b'/', b':', b'_'] {
+        assert!(rt; !is_blank(byte) && !is_digit(byte), "at {byte}");
     }
     Ok(())
 }

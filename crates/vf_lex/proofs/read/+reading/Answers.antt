@@ -4,7 +4,7 @@ use Rattle.vf_lex.specs.Answers.{HasRoom}
 use Rattle.vf_lex.specs.Inner.{around}
 use Rattle.vf_lex.specs.Places.{before}
 use Rattle.vf_lex.specs.Reads.{use_fault, ends}
-use Rattle.vf_lex.proofs.PlaceLemmas.{room_behind, moved_depth}
+use Rattle.vf_lex.proofs.PlaceLemmas.{room_after, moved_depth}
 use Rattle.vf_lex.proofs.ReadLemmas.{some_from, none_from, goes_on, defines_on, uses_on, use_fails, use_is_refused, stops_at, carries_on}
 use Rattle.vf_lex.proofs.read.+reading.Goals as goal
 
@@ -17,15 +17,15 @@ read-step-requires t c = (
 pub read-loop-rest-preserved : goal.read-loop-rest-preserved
 read-loop-rest-preserved t c =
     let l = c.loop-rest in
-    let rest = c.in_ok-behind.behind.now in
+    let rest = c.in_ok-after.after.now in
     let is = c.moved-spot.ensures in
-    let one = c.in_ok-behind.ensures in
+    let one = c.in_ok-after.ensures in
     record {
       carries = λ end. carries_on c.args.spot l.spot c.moved-spot.result (around c.args.reader.now) (around l.reader)
           (around c.step.new.reader) c.args.text.now l.rest.now rest end is
           l.invariant.carries one.read;
       room = subst (λ s. HasRoom s rest) (sym is)
-          (room_behind l.spot l.rest.now rest (omega (arith, one.behind)) l.invariant.room);
+          (room_after l.spot l.rest.now rest (omega (arith, one.shorter)) l.invariant.room);
       depth = rw is (moved_depth l.spot (before l.rest.now rest)) ∙ l.invariant.depth;
     }
 

@@ -6,7 +6,7 @@ pub loop-byte-preserved : goal.loop-byte-preserved
 loop-byte-preserved c =
     let byte = get_or c.args.bytes.now c.loop-byte.byte-index 0 in
     let room = c.loop-byte.invariant in
-    rw c.place_behind-place.ensures (record {
+    rw c.place_after-place.ensures (record {
       moved = moved_step c.loop-byte.place c.args.bytes.now c.loop-byte.byte-index c.loop-byte-test.true ∙ room.moved;
       line_fits = omega (arith, line_step c.loop-byte.place byte, room.line_fits, c.loop-byte-test.true);
       column_fits = omega (arith, column_step c.loop-byte.place byte, room.column_fits, c.loop-byte-test.true);

@@ -2,7 +2,7 @@ use Rattle.std.proofs.Common.{◌≡◌, ◌+◌, ◌-◌, ◌^◌, ◌<◌, len
 use Rattle.vf_lex.specs.Places.{moved_place}
 use Rattle.vf_lex.proofs.spot.moved_place.Given as goal
 
--- the place behind the rest is the place behind all, and there is room to count over the rest
+-- the place after the rest is the place after all, and there is room to count over the rest
 abbrev pub invariant-loop-byte : goal.invariant-loop-byte
 invariant-loop-byte l = record {
   moved : moved_place l.place (drop l.byte-index l.bytes) ≡ moved_place l.fn.place l.bytes;

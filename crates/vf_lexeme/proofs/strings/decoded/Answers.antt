@@ -5,10 +5,10 @@ use Rattle.vf_lexeme.proofs.strings.decoded.Goals as goal
 
 pub loop-first-preserved : goal.loop-first-preserved
 loop-first-preserved c =
-    let after = c.in-Some.after.now in
+    let more = c.in-Some.more.now in
     let first = c.in-Some.first.now in
     rw (c.in_ok-push.ensures.items, c.split_at.ensures.back)
-    (decoded_more c.loop-first.value.items c.loop-first.rest.now after first c.piece-byte.result.0 c.piece-byte.result.1 _
+    (decoded_more c.loop-first.value.items c.loop-first.rest.now more first c.piece-byte.result.0 c.piece-byte.result.1 _
     c.in-Some.ensures.cases.0
     (ap (λ p. p.0) c.piece-byte.ensures.value) (ap (λ p. p.1) c.piece-byte.ensures.value) c.loop-first.invariant)
 

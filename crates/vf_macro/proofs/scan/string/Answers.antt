@@ -5,5 +5,5 @@ pub returns-in-Ok : goal.returns-in-Ok
 returns-in-Ok c = string_passed c.args.bytes.now c.args.quoted.now _ c.requires c.in-Ok.ensures.found
 
 pub returns-in-Err : goal.returns-in-Err
-returns-in-Err c = rw c.behind_line.ensures.rest
+returns-in-Err c = rw c.after_line.ensures.rest
     (string_passed c.args.bytes.now c.args.quoted.now _ c.requires c.in-Err.ensures.refused)

@@ -11,12 +11,12 @@ pub loop-byte-preserved : goal.loop-byte-preserved
 loop-byte-preserved c =
     let base = c.args.base in
     let byte = c.in-Some.byte.now in
-    let after = c.in-Some.after.now in
-    let all : list_all (is_byte_of base) (byte ∷ after) ≡ true = sym (ap (list_all (is_byte_of base)) c.in-Some.ensures.cases.0)
+    let more = c.in-Some.more.now in
+    let all : list_all (is_byte_of base) (byte ∷ more) ≡ true = sym (ap (list_all (is_byte_of base)) c.in-Some.ensures.cases.0)
     ∙ c.loop-byte.invariant.0 in (
-      (and_parts (is_byte_of base byte) (list_all (is_byte_of base) after) all).1,
+      (and_parts (is_byte_of base byte) (list_all (is_byte_of base) more) all).1,
       c.with_digit-value.ensures.width,
-      sym (next_digits base byte after c.loop-byte.rest.now c.loop-byte.value.bits c.with_digit-value.result.bits
+      sym (next_digits base byte more c.loop-byte.rest.now c.loop-byte.value.bits c.with_digit-value.result.bits
           c.in-Some.ensures.cases.0 c.with_digit-value.ensures.bits)
           ∙ c.loop-byte.invariant.2,
     )

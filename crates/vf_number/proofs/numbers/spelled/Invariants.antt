@@ -4,7 +4,7 @@ use Rattle.vf_number.specs.Numbers.{is_byte_of, fill_of}
 use Rattle.vf_number.specs.Reading.{with_digits}
 use Rattle.vf_number.proofs.numbers.spelled.Given as goal
 
--- the bits so far, with the digits of the rest behind them
+-- the bits so far, with the digits of the rest after them
 abbrev pub invariant-loop-byte : goal.invariant-loop-byte
 invariant-loop-byte l =
     (list_all (is_byte_of l.base) l.rest ≡ true)

@@ -2,7 +2,7 @@ use Rattle.std.proofs.Common.{◌≡◌, ◌-◌, ◌≤◌, ◌++◌, length, t
 use Rattle.vf_fours.specs.Operators.{select_of}
 use Rattle.vf_number.specs.Numbers.{digit_width, digit_bits}
 use Rattle.vf_number.proofs.BitLists.{select_is, concat_is}
-use Rattle.vf_number.proofs.Digits.{length-digit_bits, same_digit, more_digit}
+use Rattle.vf_number.proofs.Digits.{digit_bits_length, same_digit, more_digit}
 use Rattle.vf_number.proofs.numbers.with_digit.Goals as goal
 
 pub returns-then-byte-eq95-clause-bits : goal.returns-then-byte-eq95-clause-bits
@@ -11,7 +11,7 @@ returns-then-byte-eq95-clause-bits c = same_digit c.args.base c.args.byte c.args
 pub concat-requires : goal.concat-requires
 concat-requires c =
     let size : length c.digit.result.bits ≡ digit_width c.args.base = ap (λ v. length v.bits) c.digit.ensures
-    ∙ length-digit_bits c.args.base c.args.byte in
+    ∙ digit_bits_length c.args.base c.args.byte in
     omega (arith, size, c.select.ensures.width, c.digit_width.ensures.value, c.digit_width.ensures.most)
 
 pub returns-clause-bits : goal.returns-clause-bits
@@ -28,5 +28,5 @@ returns-clause-bits c =
 pub returns-clause-width : goal.returns-clause-width
 returns-clause-width c =
     let size : length c.digit.result.bits ≡ digit_width c.args.base = ap (λ v. length v.bits) c.digit.ensures
-    ∙ length-digit_bits c.args.base c.args.byte in
+    ∙ digit_bits_length c.args.base c.args.byte in
     omega (arith, size, c.concat.ensures.width, c.select.ensures.width, c.digit_width.ensures.value, c.digit_width.ensures.most)

@@ -1,11 +1,11 @@
 use Rattle.vf_macro.proofs.MacroTexts.{goes_on, ends_here, shorter, within}
-use Rattle.vf_macro.proofs.scan.behind_text.Goals as goal
+use Rattle.vf_macro.proofs.scan.after_text.Goals as goal
 
 pub parts-smaller : goal.parts-smaller
-parts-smaller c = shorter c.parts.from.now c.in-Whole.behind.now c.in-Whole.ensures
+parts-smaller c = shorter c.parts.from.now c.in-Whole.after.now c.in-Whole.ensures
 
 pub parts-preserved : goal.parts-preserved
-parts-preserved c = goes_on c.args.bytes.now c.parts.from.now c.in-Whole.behind.now c.in-Whole.ensures c.parts.invariant
+parts-preserved c = goes_on c.args.bytes.now c.parts.from.now c.in-Whole.after.now c.in-Whole.ensures c.parts.invariant
 
 pub returns-in-Last-clause-reaches : goal.returns-in-Last-clause-reaches
 returns-in-Last-clause-reaches c =

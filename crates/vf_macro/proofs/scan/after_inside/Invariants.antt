@@ -1,6 +1,6 @@
 use Rattle.std.proofs.Common.{List, ℕ, length}
 use Rattle.vf_macro.specs.Scanning.{Runs}
-use Rattle.vf_macro.proofs.scan.behind_inside.Given as goal
+use Rattle.vf_macro.proofs.scan.after_inside.Given as goal
 
 -- the end of what runs from here on is the end of what runs from the start on
 abbrev pub invariant-loop-more : goal.invariant-loop-more
