@@ -257,8 +257,8 @@ fn undef_effect<'a>(
     Ok(rest)
 }
 
-/// The text of the macro of that name.
-fn used(alloc: Global, reader: &Reader, name: &[u8]) -> Result<Vec<u8>, LexKind>
+/// The text of the macro of that name, for one use of it.
+fn used_text(alloc: Global, reader: &Reader, name: &[u8]) -> Result<Vec<u8>, LexKind>
     ensures { (rest : List ℕ) → Gives (λ text. Uses text.items rest) result (use_effect ((around reader.now).macros name.now) rest) }
 {
     match reader.find(name) {
@@ -288,7 +288,7 @@ fn other_effect<'a>(
         Directive::Undef => Ok(Step::Goes(undef_effect(alloc, reader, after_blanks(bytes))?)),
         Directive::Include => Err(LexKind::LeftOut),
         Directive::Skipped => Ok(Step::Goes(after_line(bytes))),
-        Directive::Use => Ok(Step::Uses(used(alloc, reader, name)?, bytes)),
+        Directive::Use => Ok(Step::Uses(used_text(alloc, reader, name)?, bytes)),
     }
 }
 
