@@ -222,9 +222,21 @@ fn a_design_above_its_limit_is_not_read(rt: HostRuntime) -> Result<(), Fail> {
 
 #[test]
 fn a_write_that_fails_ends_the_report(rt: HostRuntime) -> Result<(), Fail> {
-    for (fails, out) in [(1u64, ""), (2, hi_test())] {
+    // the write that fails, 0 for none, the bytes that the output has room for, and those that it took
+    for (fails, room, out) in [
+        (1u64, 4096usize, ""),
+        (2, 4096, hi_test()),
+        (0, 10, "test t fin"),
+        (
+            0,
+            60,
+            "test t finish:0 turns 20 bytes 3 out 68690a expect none\ntest",
+        ),
+    ] {
         let files = files(rt.alloc(), echo(), hi())?;
-        let told = told(rt.alloc(), names(), files, outside(0, fails, 4096))?;
+        let mut outside = outside(0, fails, 4096);
+        outside.room = room;
+        let told = told(rt.alloc(), names(), files, outside)?;
         assert_eq!(rt; told.status, 7);
         assert_eq!(rt; told.out.bytes(), out.as_bytes());
         assert_eq!(rt; told.err.bytes(), "vfarm: write failed\n".as_bytes());

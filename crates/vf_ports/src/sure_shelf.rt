@@ -8,8 +8,8 @@ use crate::{Shelf, ShelfRefusal};
 use std::marker::Model;
 use vf_base::Text;
 
-/// Files in memory, none of whose calls fails: a missing name is an empty file. It tells what its
-/// names hold, and that no call failed.
+/// Files in memory whose calls never fail: a missing name is an empty file. It tells what its names hold,
+/// and that no call failed.
 #[derive(Drop)]
 pub struct SureShelf(Vec<(Text, Text)>);
 

@@ -32,11 +32,11 @@ literal text h = λ k d within. plain_byte (get_or text k d) (AllPass-from_list_
 joined : (a b : List ℕ) → HasNoNewline a → HasNoNewline b → HasNoNewline (a ++ b)
 joined a b ha hb = All-append (λ byte. byte ≢ 10) a b ha hb
 
--- a literal and a text behind it
+-- a literal and a text after it
 labelled : (label text : List ℕ) → list_all is_plain label ≡ true → HasNoNewline text → HasNoNewline (label ++ text)
 labelled label text h ht = joined label text (literal label h) ht
 
--- a digit is no newline
+-- a digit is not a newline
 glyph_plain : (upper : Bool) (d : ℕ) → digit_glyph upper d ≢ 10
 glyph_plain upper d =
     elim (nat_lt d 10) as (λ b. (if b then 48 + d else (if upper then 55 + d else 87 + d)) ≢ 10) [
@@ -86,7 +86,7 @@ ending_plain Output = literal (codes "output") refl
 ending_plain Events = literal (codes "events") refl
 ending_plain Time = literal (codes "time") refl
 
--- a text with a label and another text behind it
+-- a text with a label and another text after it
 followed : (text label more : List ℕ) → list_all is_plain label ≡ true → HasNoNewline text → HasNoNewline more → HasNoNewline (text ++ label ++ more)
 followed text label more h ht hm = joined (text ++ label) more (joined text label ht (literal label h)) hm
 
@@ -116,7 +116,7 @@ test_is_line name expectation outcome h = record {
   only = followed (codes "test " ++ name) (codes " ") (outcome_text expectation outcome) refl (labelled (codes "test ") name refl h) (outcome_plain expectation outcome);
 }
 
--- a text with a label and a number behind it
+-- a text with a label and a number after it
 counted : (text label : List ℕ) (n : ℕ) → list_all is_plain label ≡ true → HasNoNewline text → HasNoNewline (text ++ label ++ decimal n)
 counted text label n h ht = followed text label (decimal n) h ht (decimal_plain n)
 

@@ -4,7 +4,7 @@ use Rattle.std.specs.Str.{bytes_eq}
 use Rattle.vf_base.specs.declared.run.Outcome.{Outcome}
 use Rattle.vf_base.specs.declared.run.Outcome.TheVariants.{Done, Pages}
 
--- The bytes that are expected, where some are; and the outcome, where memory was not wanting.
+-- The bytes that are expected, where some are; and the outcome, unless it was out of memory.
 pub record Tested : Type 0 where
   pub expectation : Option (List ℕ)
   pub outcome : Option Outcome
@@ -21,7 +21,7 @@ wants_pages None = false
 wants_pages (Some (Done ending text turns)) = false
 wants_pages (Some (Pages needed)) = true
 
--- whether memory was wanting
+-- whether it was out of memory
 abbrev pub wants_memory : Option Outcome → Bool
 wants_memory None = true
 wants_memory (Some outcome) = false
@@ -48,7 +48,7 @@ fails expectation None = false
 fails expectation (Some (Done ending text turns)) = differs expectation text
 fails expectation (Some (Pages needed)) = false
 
--- the turns of a run that ended, and none of another
+-- the turns of a run that ended, and 0 for any other
 abbrev pub turns_of : Option Outcome → ℕ
 turns_of None = 0
 turns_of (Some (Done ending text turns)) = turns

@@ -35,7 +35,7 @@ expect_text (Some expected) bytes =
     if bytes_eq expected bytes then codes "met"
     else codes "differs:" ++ decimal (length expected) ++ codes ":" ++ decimal (first_difference expected bytes)
 
--- a test's line behind the name
+-- a test's line after the name
 abbrev pub outcome_text : Option (List ℕ) → Option Outcome → List ℕ
 outcome_text expectation None = codes "memory"
 outcome_text expectation (Some (Pages needed)) = codes "pages " ++ decimal needed

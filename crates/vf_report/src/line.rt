@@ -6,8 +6,8 @@ use std::alloc::Global;
 use vf_base::{Ending, Memory, Outcome};
 
 /// The line of a test: its name, what became of it, and how its bytes compare with what is expected
-/// of them, where something is. `outcome` is `None` where memory was wanting. The only refusal is
-/// want of memory.
+/// of them, where something is. `outcome` is `None` where the test was out of memory. The only refusal is
+/// out of memory.
 pub fn test_line(
     alloc: Global,
     name: &[u8],

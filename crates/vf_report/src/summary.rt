@@ -22,7 +22,7 @@ pub struct Summary {
     pub failed: u32,
     /// Those that passed their budget of pages.
     pub pages: u32,
-    /// Those for which memory was wanting.
+    /// Those that were out of memory.
     pub memory: u32,
     /// The turns of all completed ones.
     pub turns: u64,
@@ -55,7 +55,7 @@ impl Summary {
         }
     }
 
-    /// Counts one more test. `outcome` is `None` where memory was wanting. There are less than 2^32
+    /// Counts one more test. `outcome` is `None` where it was out of memory. There are fewer than 2^32
     /// tests, and the turns of the completed ones sum to less than 2^64.
     pub fn add(&mut self, expectation: Option<&[u8]>, outcome: Option<&Outcome>)
         requires tests { self.old.tests + 1 < 2 ^ 32 }
@@ -84,7 +84,7 @@ impl Summary {
     }
 }
 
-/// The last line of a report. The only refusal is want of memory.
+/// The last line of a report. The only refusal is out of memory.
 pub fn summary_line(alloc: Global, summary: &Summary) -> Result<Vec<u8>, Memory>
     ensures { IfOk result (λ line. line.items ≡ summary_text summary.now) }
 {

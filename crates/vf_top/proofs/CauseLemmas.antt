@@ -50,7 +50,7 @@ long_design words before after status (reported p test is reports silent) = λ d
 long_design words before after status (refused refusal is cause shelf work says) = λ design plan given none long.
     subst (IsUnlessMemory 6) (sym is) (long_design_by words before after design plan refusal given none long cause)
 
--- ---- bytes that are no design
+-- ---- bytes that are not a design
 
 wrong_design_by : (words : List (List ℕ)) (before after : World) (design plan : List ℕ) (refusal : Refusal) → IsGiven words before.shelf design plan → NoFault before after → length design ≤ limit_of Design
     → ((p : Program) → IsEarly design default_slots p → ⊥) → Cause words before after refusal → IsUnlessMemory 3 (status_of refusal)

@@ -48,7 +48,7 @@ LongDesign words before after status =
     (design plan : List ℕ) → IsGiven words before.shelf design plan → NoFault before after
     → limit_of Design < length design → IsUnlessMemory 6 status
 
--- bytes that are no early design
+-- bytes that are not an early design
 abbrev pub WrongDesign : List (List ℕ) → World → World → ℕ → Type 0
 WrongDesign words before after status =
     (design plan : List ℕ) → IsGiven words before.shelf design plan → NoFault before after

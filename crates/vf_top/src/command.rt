@@ -106,7 +106,7 @@ fn answer<S: Shelf, K: Sink, E: Sink, L: Ledger>(
 /// | 0 | the whole report was written to `out`, and nothing to `err`; none of 1, 5 and 8 stands in it |
 /// | 1 | a whole report: the bytes of a completed test differ from those that the plan expects |
 /// | 2 | exactly where the words are not two names of files |
-/// | 3 | exactly where the bytes of the design are no early design |
+/// | 3 | exactly where the bytes of the design are not an early design |
 /// | 4 | exactly where the bytes of the plan are not a plan, or are one of more than one node |
 /// | 5 | a whole report: the solo run of the test touches more pages than the budget |
 /// | 6 | the shelf failed in this call, or exactly where a file is above its limit |

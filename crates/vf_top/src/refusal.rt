@@ -26,7 +26,7 @@ pub enum Refusal {
     /// The file is longer than its limit.
     #[error("a file is above its limit: {0:?}")]
     TooLong(What),
-    /// The bytes of the design are no early design.
+    /// The bytes of the design are not an early design.
     #[error("the design is not an early design")]
     DesignNotBuilt,
     /// The bytes of the plan are not a plan.
