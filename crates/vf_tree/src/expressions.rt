@@ -19,7 +19,10 @@ pub enum ExprForm {
     /// A primary without an operator.
     Plain(Primary),
     /// A unary operator and its operand.
-    One { op: UnaryOp, of: TreeExpr },
+    One {
+        op: UnaryOp,
+        of: TreeExpr,
+    },
     /// A binary operator between its operands.
     Two {
         op: BinaryOp,
@@ -48,7 +51,10 @@ pub struct Primary {
 pub enum PrimaryForm {
     Number(Number),
     /// A name, with two selects at most.
-    Name { name: Name, selects: Items<Select> },
+    Name {
+        name: Name,
+        selects: Items<Select>,
+    },
     /// An expression in parentheses.
     Paren(TreeExpr),
     /// A concatenation of one part or more (clause 5.1.14).
@@ -63,7 +69,10 @@ pub enum PrimaryForm {
     /// `$feof` of a file descriptor (clause 17.2.4).
     Feof(TreeExpr),
     /// `$signed` or `$unsigned` of an expression (clause 5.5).
-    Sign { call: SignCall, of: TreeExpr },
+    Sign {
+        call: SignCall,
+        of: TreeExpr,
+    },
 }
 
 /// The functions that set a sign mark (clause 5.5).

@@ -11,9 +11,7 @@ mod modules;
 mod statements;
 mod words;
 
-pub use expressions::{
-    ExprForm, Primary, PrimaryForm, Select, SelectForm, SignCall, TreeExpr,
-};
+pub use expressions::{ExprForm, Primary, PrimaryForm, Select, SelectForm, SignCall, TreeExpr};
 pub use modules::{
     Aport, AportForm, AssignPart, Conns, ConnsForm, Dir, DirWord, Hport, Inst, Item, ItemForm,
     Module, NamedConn, Net, NetOrReg, NetWord, ParamPart, ParamWord, Ports, PortsForm, Pparam,

@@ -129,7 +129,10 @@ pub enum ItemForm {
         nets: Items<Net>,
     },
     /// Variables (clause 4.2.2).
-    Vars { of: VarType, vars: Items<Var> },
+    Vars {
+        of: VarType,
+        vars: Items<Var>,
+    },
     /// Parameters (clause 4.10).
     Params {
         word: ParamWord,

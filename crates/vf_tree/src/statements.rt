@@ -52,7 +52,10 @@ pub enum EventsForm {
     /// A change of the named signal.
     Name(Name),
     /// One event or more in parentheses (clause 9.7.4).
-    List { first: Event, more: Items<NextEvent> },
+    List {
+        first: Event,
+        more: Items<NextEvent>,
+    },
 }
 
 /// A further event of a list, and what joins it to those before.
@@ -101,7 +104,10 @@ pub enum TaskForm {
         args: Option<Items<Arg>>,
     },
     /// A task that saves the state under a name.
-    Save { task: SaveWord, name: Quoted },
+    Save {
+        task: SaveWord,
+        name: Quoted,
+    },
     /// A task that ends the run. The number is `None` where there are no parentheses.
     End {
         task: EndWord,
@@ -166,7 +172,10 @@ pub enum StmtForm {
         body: Items<Stmt>,
     },
     /// A blocking assignment (clause 9.2.1).
-    Assign { target: Target, value: TreeExpr },
+    Assign {
+        target: Target,
+        value: TreeExpr,
+    },
     /// A blocking assignment of the next byte of a file (clause 17.2.4.1).
     Getc {
         target: Target,
@@ -191,9 +200,15 @@ pub enum StmtForm {
         items: Items<Citem>,
     },
     /// `while` (clause 9.6).
-    While { cond: TreeExpr, body: Stmt },
+    While {
+        cond: TreeExpr,
+        body: Stmt,
+    },
     /// `repeat` (clause 9.6).
-    Repeat { count: TreeExpr, body: Stmt },
+    Repeat {
+        count: TreeExpr,
+        body: Stmt,
+    },
     /// `forever` (clause 9.6).
     Forever(Stmt),
     /// `for (start = first; cond; step = next) body` (clause 9.6).
@@ -206,11 +221,20 @@ pub enum StmtForm {
         body: Stmt,
     },
     /// A statement after a delay (clause 9.7.1).
-    Delayed { delay: Delay, body: Stmt },
+    Delayed {
+        delay: Delay,
+        body: Stmt,
+    },
     /// A statement after an event (clause 9.7.2).
-    On { events: Events, body: Stmt },
+    On {
+        events: Events,
+        body: Stmt,
+    },
     /// A statement after a level (clause 9.7.6).
-    Wait { cond: TreeExpr, body: Stmt },
+    Wait {
+        cond: TreeExpr,
+        body: Stmt,
+    },
     /// A call of a system task.
     Task(Task),
 }
@@ -236,10 +260,7 @@ pub struct Citem {
 #[derive(Drop)]
 pub enum CitemForm {
     /// One expression or more.
-    Labels {
-        labels: Items<TreeExpr>,
-        body: Stmt,
-    },
+    Labels { labels: Items<TreeExpr>, body: Stmt },
     /// The default, with or without its colon.
     Default { colon: bool, body: Stmt },
 }
