@@ -1,0 +1,10 @@
+//! Tests of the public calls of the crates that read tokens: vf_tree and vf_expression.
+//!
+//! A crate with tests is proved twice, so the tests of a group of crates stand in one crate above them. Nothing else is here.
+//! The expected trees and places are found by hand from docs/LANGUAGE.md, "Grammar".
+#![tactic(auto)]
+
+#[cfg(test)]
+mod expressions;
+#[cfg(test)]
+mod spell;
