@@ -105,33 +105,3 @@ impl Frames for PlainPool {
         holder.misses
     }
 }
-
-#[cfg(test)]
-mod tests {
-    use super::PlainPool;
-    use crate::Frames;
-    use std::test::Fail;
-
-    // Two frames, and a second holder that takes part in one of them.
-    #[test]
-    fn frames_are_shared_and_counted(rt: HostRuntime) -> Result<(), Fail> {
-        let (mut pool, mut first) = PlainPool::new(rt.alloc(), 2)?;
-        let mut second = pool.open(&mut first, 1)?;
-        let shared = pool.claim(&mut first).ok_or("a free frame")?;
-        pool.hold(&first, &mut second, shared);
-        assert!(rt; !pool.look(&mut first, shared));
-        pool.release(&mut second, shared);
-        assert!(rt; pool.look(&mut first, shared));
-
-        assert!(rt; pool.claim(&mut second).is_some());
-        assert!(rt; pool.claim(&mut second).is_none());
-        assert_eq!(rt; pool.misses(&second), 1);
-
-        pool.release(&mut first, shared);
-        assert_eq!(rt; pool.claim(&mut second), Some(shared));
-        pool.join(&mut first, second);
-        assert_eq!(rt; pool.misses(&first), 1);
-        assert!(rt; pool.claim(&mut first).is_none());
-        Ok(())
-    }
-}

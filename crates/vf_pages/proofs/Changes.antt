@@ -1,5 +1,5 @@
 -- What a refused change leaves.
-use Rattle.std.proofs.Common.{◌≡◌, ◌≢◌, ℕ, ◌+◌, ◌/◌, ◌<◌, ◌≤◌, true, List, [], ◌∷◌, length, map, refl, sym, ap, ◌∙◌, arith, eq-eqb, ne_eqb, subst, ⊎_elim}
+use Rattle.std.proofs.Common.{◌≡◌, ◌≢◌, ℕ, ◌+◌, ◌/◌, ◌<◌, ◌≤◌, true, List, [], ◌∷◌, length, map, refl, sym, ap, ap₂, ◌∙◌, arith, eq-eqb, ne_eqb, subst, ⊎_elim}
 use Rattle.std.specs.Prelude.{Option}
 use Rattle.std.proofs.lemmas.Bool.{cases_eq}
 use Rattle.vf_base.specs.declared.write.Write.{Write}
@@ -19,6 +19,9 @@ use Rattle.vf_pages.specs.Calls.{IsShort, ShortAmong, IsUnmade, OnRefusal}
 use Rattle.vf_pages.proofs.Entries.{rises-parts, rises-from, rises-less}
 use Rattle.vf_frames.proofs.CallerLemmas.{notes-then, wins-append, any-left, rest-then}
 use Rattle.vf_pages.proofs.Counting.{beyond-budget}
+use Rattle.vf_pages.specs.declared.held.Held.{Held}
+use Rattle.vf_pages.specs.Views.{pages_of}
+use Rattle.vf_pages.proofs.Lookups.{length-pages}
 
 -- the pages that writes fall on rise
 with_page-rises : (p limit : ℕ) (qs : List ℕ) → rises p limit qs ≡ true → p < limit → rises p limit (with_page p qs) ≡ true
@@ -49,6 +52,10 @@ owns-covers pages fresh frames owns f = omega (arith, owns f)
 
 pub gives-held : (pages fresh : List Page) (frames left : List ℕ) → Owns pages fresh frames → Gives fresh frames left → IsHeld pages left
 gives-held pages fresh frames left owns gives f = omega (arith, owns f, gives f)
+
+-- as many pages are counted in memory
+pub count-same : (hs : List Held) (pages : List Page) (ps : List ℕ) → pages_of hs ≡ pages → length hs + new_pages (pages_of hs) ps ≡ length pages + new_pages pages ps
+count-same hs pages ps same = ap₂ (λ a b. a + b) (sym (length-pages hs) ∙ ap length same) (ap (λ es. new_pages es ps) same)
 
 module _ (pages : List Page) (ws : List Write) (a0 : Option (List ℕ)) (start : Holder) (a : Option (List ℕ)) (now : Holder) (fresh : List Page) where
   pub lack-owns : (lack : Lack) → OnLack lack (Short pages ws a0 start a now fresh) (Unmade pages a0 start a now fresh) → Owns pages fresh now.frames

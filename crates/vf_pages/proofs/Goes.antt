@@ -1,17 +1,17 @@
 -- One page's writes, in the terms of the code.
-use Rattle.std.proofs.Common.{◌≡◌, ◌≢◌, ℕ, ◌<◌, ◌≤◌, true, false, List, [], ◌∷◌, length, refl, sym, ap, ◌∙◌, arith, subst, IsTrue, inl, inr, ◌↔◌}
+use Rattle.std.proofs.Common.{◌≡◌, ◌≢◌, ℕ, ◌<◌, ◌≤◌, true, false, cond, List, [], ◌∷◌, length, refl, sym, ap, ◌∙◌, arith, subst, IsTrue, inl, inr, ◌↔◌}
 use Rattle.std.specs.Prelude.{Option, Some, None, Result, Ok, Err, OnErr, IfErr}
 use Rattle.vf_base.specs.declared.write.Write.{Write}
 use Rattle.vf_frames.specs.declared.holder.Holder.{Holder}
 use Rattle.vf_frames.specs.Numbers.{has}
 use Rattle.vf_frames.specs.Holders.{count, Accounts, Keeps}
-use Rattle.vf_frames.specs.Calls.{Looked}
+use Rattle.vf_frames.specs.Calls.{Looked, NotesLook}
 use Rattle.vf_pages.specs.declared.gather.Lack.{Lack}
 use Rattle.vf_pages.specs.declared.gather.Lack.TheVariants.{Frame, Memory}
 use Rattle.vf_pages.specs.Pages.{Page, entry, zero_page, old_words, Owns, page_limit}
 use Rattle.vf_pages.specs.Writes.{after, AllOn}
-use Rattle.vf_pages.specs.Gathered.{Added, NoFrame, OnLack, Unmade, Goes, Ends}
-use Rattle.vf_frames.proofs.CallerLemmas.{keeps-then}
+use Rattle.vf_pages.specs.Gathered.{GatherNotes, Added, NoFrame, OnLack, Unmade, Goes, Ends}
+use Rattle.vf_frames.proofs.CallerLemmas.{keeps-then, rest-then, notes-then}
 use Rattle.vf_pages.proofs.Frames.{occurs-entry, has-from, one_if-has}
 use Rattle.vf_pages.proofs.Steps.{step-alone, step-look, step-add, step-short, step-unmade}
 
@@ -19,6 +19,10 @@ use Rattle.vf_pages.proofs.Steps.{step-alone, step-look, step-add, step-short, s
 pub err-both : {T E : Type 0} (r : Result T E) (P : Type 0) (Q R : E → Type 0) → OnErr r P → IfErr r Q → ((e : E) → P → Q e → R e) → IfErr r R
 err-both (Ok x) P Q R p q f = tt
 err-both (Err e) P Q R p q f = f e p q
+
+pub err-weaker : {T E : Type 0} (r : Result T E) (Q R : E → Type 0) → IfErr r Q → ((e : E) → Q e → R e) → IfErr r R
+err-weaker (Ok x) Q R q f = tt
+err-weaker (Err e) Q R q f = f e q
 
 -- a held page's frame is in the list
 pub owned-has : (pages fresh : List Page) (frames : List ℕ) (p : ℕ) (o : Page) → Owns pages fresh frames → entry p pages ≡ Some o → has o.frame frames ≡ true
@@ -47,6 +51,16 @@ module _ (zero : List ℕ) (pages : List Page) (p : ℕ) (a : Option (List ℕ))
   goes-new [] words a' now' fresh' some on below none are added keeps = absurd (omega arith)
   goes-new (w ∷ ws) words a' now' fresh' some on below none are added keeps = λ done a0 before first g.
       step-add zero pages done a0 before a now fresh p w ws words a' now' fresh' on first below (inl none) (are ∙ ap (λ o. after (w ∷ ws) p (old_words zero p o)) (sym none)) added keeps g
+
+  pub ends-alone : (own : List Write) (f : ℕ) (a' : Option (List ℕ)) (now' : Holder) (lack : Lack) → Looked f true now now' → Keeps a (now ∷ []) a' (now' ∷ []) → lack ≡ Memory
+      → Ends zero pages p own a now fresh a' now' fresh lack
+  ends-alone own f a' now' Frame look keeps is = absurd (cc)
+  ends-alone own f a' now' Memory look keeps is = λ done a0 before first g. record {
+    owns = λ n. g.owns n ∙ ap (λ fs. cond {A = ℕ} (has n fs) 1 0) (sym look.frames);
+    rest = rest-then before now now' g.rest look.rest;
+    accounts = keeps-then a0 a a' before now now' g.accounts keeps;
+    notes = notes-then (GatherNotes pages done fresh) (NotesLook f true) (λ _. Unit {0}) before.notes now.notes now'.notes g.notes look.notes (λ xs ys x y. tt);
+  }
 
   unmade-then : (a0 : Option (List ℕ)) (before : Holder) (a' : Option (List ℕ)) (now' : Holder) (fresh' : List Page) → Unmade pages a0 before a now fresh' → Keeps a (now ∷ []) a' (now' ∷ []) → now' ≡ now → Unmade pages a0 before a' now' fresh'
   unmade-then a0 before a' now' fresh' u keeps same =

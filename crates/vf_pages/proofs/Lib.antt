@@ -10,9 +10,10 @@ pub mod Lookups
 pub mod InPlaces
 pub mod Counting
 pub mod Results
-pub mod Copying
 pub mod Merging
 pub mod Changes
 pub mod Shuffles
 pub mod Bases
+pub mod Tables
+pub mod Writing
 pub mod CallerLemmas

@@ -53,11 +53,22 @@ find-down xs limit middle p r within more k h lt =
     (λ before. let same : k ≡ middle = omega arith in omega (arith, ap (slice_index xs) same))
     (cases_lt middle k)
 
+-- rising numbers stand at one index each
+pub only-one : (xs : List ℕ) (i j p : ℕ) → rises 0 page_limit xs ≡ true → i < length xs → j < length xs → slice_index xs i ≡ p → slice_index xs j ≡ p → i ≡ j
+only-one xs i j p r h k at same =
+    ⊎_elim
+    (λ before. absurd (omega (arith, rises-order 0 page_limit xs i j 0 r before k, at, same)))
+    (λ not_before. ⊎_elim
+    (λ behind. absurd (omega (arith, rises-order 0 page_limit xs j i 0 r behind h, at, same)))
+    (λ not_behind. omega (arith, not_before, not_behind))
+    (cases_lt j i))
+    (cases_lt i j)
+
 -- what is found
 pub entry-place : (ps : List Page) (i p : ℕ) (d : Page) → IsSorted ps → IsPlace p ps i → entry p ps ≡ Some (get_or ps i d)
 entry-place ps i p d sorted place = entry-at 0 page_limit ps i p d sorted place.within (sym (number-at ps i d place.within) ∙ place.number)
 
-none-at : (ps : List Page) (p : ℕ) → ((k : ℕ) → k < length ps → slice_index (pages_in ps) k ≢ p) → entry p ps ≡ None
+pub none-at : (ps : List Page) (p : ℕ) → ((k : ℕ) → k < length ps → slice_index (pages_in ps) k ≢ p) → entry p ps ≡ None
 none-at [] p h = refl
 none-at (x ∷ xs) p h =
     entry-other p x xs (λ e. h 0 (omega arith) (sym e)) ∙ none-at xs p (λ k lt. h (suc k) (omega arith))

@@ -1,7 +1,9 @@
 pub mod Pages
 pub mod Writes
 pub mod Needs
+pub mod Contents
 pub mod Views
+pub mod Places
 pub mod Puts
 pub mod Bases
 pub mod InPlace

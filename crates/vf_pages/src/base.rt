@@ -26,7 +26,7 @@ fn is_in_base(one: &Held, base: &[Held]) -> bool
     ensures { result ≡ is_in_base (pages_of base.now) (page_of one.now) }
 {
     match find(base, one.page.0) {
-        Ok(place) => same_words(&one.content, &base[place].content),
+        Ok(place) => same_words(one.content.words(), base[place].content.words()),
         Err(_) => false,
     }
 }

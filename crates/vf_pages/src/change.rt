@@ -1,4 +1,4 @@
-ghost use Rattle.std.specs.Prelude.{◌≡◌, ℕ, ◌+◌, ◌≤◌, [], ◌∷◌, List, length, vec_len, vec_capacity, map, IfErr, IfOk, OnOk, OnErr};
+ghost use Rattle.std.specs.Prelude.{◌≡◌, ℕ, ◌+◌, ◌*◌, ◌≤◌, [], ◌∷◌, List, length, vec_len, vec_capacity, IfErr, IfOk, OnOk, OnErr};
 ghost use Rattle.std.specs.Arc.{arc_value};
 ghost use Rattle.vf_frames.specs.declared.holder.Holder.{Holder};
 ghost use Rattle.vf_frames.specs.Holders.{Accounts, Keeps, SamePool};
@@ -6,13 +6,15 @@ ghost use Rattle.vf_pages.specs.Pages.{IsSorted, IsHeld};
 ghost use Rattle.vf_pages.specs.Views.{pages_of, shown};
 ghost use Rattle.vf_pages.specs.Writes.{AreWrites, written_pages};
 ghost use Rattle.vf_pages.specs.Needs.{new_pages};
-ghost use Rattle.vf_pages.specs.InPlace.{in_place};
+ghost use Rattle.vf_pages.specs.Places.{IsTable};
 ghost use Rattle.vf_pages.specs.Gathered.{OnLack};
 ghost use Rattle.vf_pages.specs.Calls.{Wrote, WroteAmong, IsShort, ShortAmong, OnRefusal, IsUnmade};
 
 use crate::gather::{Lack, gather, give_up};
 use crate::held::Held;
-use crate::install::{install, write_in_place};
+use crate::install::install;
+use crate::kept::write_kept;
+use crate::places::note_added;
 use crate::refusal::PageRefusal;
 use crate::search::count_new;
 use std::sync::Arc;
@@ -32,10 +34,6 @@ fn refusal_of(lack: Lack, held: &[Held], writes: &[Write], words: usize) -> Page
         Lack::Memory => PageRefusal::Memory,
     }
 }
-
-// How many written pages of one call are written where they are: as many as a state has at most. The
-// pages past these get new contents.
-const IN_PLACE: u32 = 32768;
 
 // How many new pages of one call are inserted one by one. More are merged into the list of pages.
 const INSERTED: usize = 8;
@@ -58,33 +56,28 @@ fn spare_room(
     Ok(Vec::with_capacity(alloc, held.capacity())?)
 }
 
-// Takes the room for fresh pages, and to merge them through, and writes those that have none.
-fn prepare(
+// Takes the room for fresh pages, and to merge them through.
+fn make_room(
     held: &mut Vec<Held>,
     fresh: &Vec<Held>,
     writes: &[Write],
     words: usize,
 ) -> Result<Vec<Held>, Memory>
     requires sorted { IsSorted (pages_of held.old.items) }
-    requires fresh { IsSorted (pages_of fresh.now.items) }
     requires writes { AreWrites words writes.now }
-    ensures ok { OnOk result (pages_of held.new.items
-        ≡ map (in_place writes.now (pages_of fresh.now.items)) (pages_of held.old.items)) }
+    ensures held { held.new.items ≡ held.old.items }
     ensures spare { IfOk result (λ spare. spare.items ≡ []) }
     ensures room { OnOk result (vec_len held.new + vec_len fresh.now ≤ vec_capacity held.new) }
-    ensures err { OnErr result (pages_of held.new.items ≡ pages_of held.old.items) }
 {
     held.reserve(fresh.len())?;
-    let spare = spare_room(held, fresh, writes, words)?;
-    let alloc = *held.allocator();
-    write_in_place(alloc, held, fresh, writes, words, IN_PLACE)?;
-    Ok(spare)
+    Ok(spare_room(held, fresh, writes, words)?)
 }
 
 /// Writes words over the pages of one holder.
 pub(crate) fn change<F: Frames>(
     zero: &Arc<Vec<u64>>,
     held: &mut Vec<Held>,
+    places: &mut Vec<u32>,
     pool: &mut F,
     token: &mut F::Token,
     writes: &[Write],
@@ -93,6 +86,8 @@ pub(crate) fn change<F: Frames>(
     requires sorted { IsSorted (pages_of held.old.items) }
     requires held { IsHeld (pages_of held.old.items) (F.seen token.old).frames }
     requires writes { AreWrites (length (arc_value zero.now).items) writes.now }
+    requires table { IsTable places.old.items (pages_of held.old.items) }
+    requires wide { length (arc_value zero.now).items ≤ 64 * length places.old.items }
     ensures ok { OnOk result (Wrote writes.now
         (shown (arc_value zero.now).items held.old.items (F.seen token.old))
         (shown (arc_value zero.now).items held.new.items (F.seen token.new))) }
@@ -114,20 +109,25 @@ pub(crate) fn change<F: Frames>(
         (λ k. ShortAmong k writes.now (shown (arc_value zero.now).items held.old.items (F.seen token.old)) others)
         (Unit {0})) }
     ensures sorted { IsSorted (pages_of held.new.items) }
+    ensures table { IsTable places.new.items (pages_of held.new.items) }
+    ensures len { length places.new.items ≡ length places.old.items }
     ensures held { IsHeld (pages_of held.new.items) (F.seen token.new).frames }
     ensures kept { Keeps (F.numbers pool.old) (F.seen token.old ∷ []) (F.numbers pool.new) (F.seen token.new ∷ []) }
     ensures pool { SamePool (F.name pool.old) (F.numbers pool.old) (F.name pool.new) (F.numbers pool.new) }
 {
     let zero = zero.as_slice();
+    let before = held.len();
     let mut fresh = Vec::new(*held.allocator());
-    if let Err(lack) = gather(zero, held, pool, token, writes, &mut fresh) {
+    if let Err(lack) = gather(zero, held, places, pool, token, writes, &mut fresh) {
         give_up(pool, token, fresh);
         return Err(refusal_of(lack, held, writes, zero.len()));
     }
-    let Ok(spare) = prepare(held, &fresh, writes, zero.len()) else {
+    let Ok(spare) = make_room(held, &fresh, writes, zero.len()) else {
         give_up(pool, token, fresh);
         return Err(PageRefusal::Memory);
     };
+    write_kept(held, places, &fresh, writes, zero.len());
     install(pool, token, held, fresh, spare);
+    note_added(held, places, before);
     Ok(())
 }

@@ -1,15 +1,16 @@
-ghost use Rattle.std.specs.Prelude.{◌≡◌, ◌/◌, ◌<◌, [], ◌∷◌, true, length, OnOk, OnErr, IfErr};
+ghost use Rattle.std.specs.Prelude.{◌≡◌, ℕ, ◌/◌, ◌<◌, [], ◌∷◌, true, length, vec_len, OnOk, OnErr, IfErr};
 ghost use Rattle.vf_frames.specs.Holders.{Keeps, SamePool};
 ghost use Rattle.vf_frames.specs.Calls.{SameRest, NotesGrow, NoWin};
-ghost use Rattle.vf_pages.specs.Pages.{IsSorted, IsHeld, Owns, Covers, Gives};
+ghost use Rattle.vf_pages.specs.Pages.{IsSorted, IsHeld, Owns, Covers, Gives, zero_page};
 ghost use Rattle.vf_pages.specs.Views.{pages_of};
-ghost use Rattle.vf_pages.specs.Writes.{AllOn, AreWrites};
+ghost use Rattle.vf_pages.specs.Writes.{AllOn, AreWrites, after, touches};
+ghost use Rattle.vf_pages.specs.Places.{IsTable, AtHand, TakenAt, TakesPage};
 ghost use Rattle.vf_pages.specs.Gathered.{Added, NoFrame, OnLack, Goes, Ends, Gathered, Short, Unmade};
 
-use crate::content::{written_words, zero_words};
+use crate::content::{Content, written_words, zero_words};
 use crate::held::{Held, PageNo};
-use crate::search::{find, split_page};
-use std::sync::Arc;
+use crate::places::place_in;
+use crate::search::split_page;
 use vf_base::Write;
 use vf_frames::Frames;
 
@@ -20,16 +21,20 @@ pub(crate) enum Lack {
     Memory,
 }
 
-// Makes the content of one page more and claims a frame for it.
+// Makes the content of one page more, these words after writes, and claims a frame for it. It is not
+// inlined, so that no other function has room for a page among its locals.
+#[inline(never)]
 fn add_fresh<F: Frames>(
     pool: &mut F,
     token: &mut F::Token,
     page: u32,
-    words: [u64; 64],
+    words: &[u64; 64],
+    own: &[Write],
     fresh: &mut Vec<Held>,
 ) -> Result<(), Lack>
-    requires { (F.seen token.old).name ≡ F.name pool.old }
-    ensures ok { OnOk result (Added page words (F.numbers pool.old) (F.seen token.old) (F.seen token.new)
+    requires name { (F.seen token.old).name ≡ F.name pool.old }
+    requires own { AllOn page own.now }
+    ensures ok { OnOk result (Added page (after own.now page words.now) (F.numbers pool.old) (F.seen token.old) (F.seen token.new)
         (pages_of fresh.old.items) (pages_of fresh.new.items)) }
     ensures err { OnErr result (pages_of fresh.new.items ≡ pages_of fresh.old.items) }
     ensures lack { IfErr result (λ lack. OnLack lack
@@ -39,7 +44,7 @@ fn add_fresh<F: Frames>(
     ensures pool { SamePool (F.name pool.old) (F.numbers pool.old) (F.name pool.new) (F.numbers pool.new) }
 {
     let alloc = *fresh.allocator();
-    let Ok(content) = Arc::new(alloc, words) else {
+    let Ok(content) = Content::new(alloc, written_words(words, page, own)) else {
         return Err(Lack::Memory);
     };
     let Ok(()) = fresh.reserve(1) else {
@@ -56,10 +61,49 @@ fn add_fresh<F: Frames>(
     Ok(())
 }
 
+// Makes the content of a new page, the words at time zero after writes, and claims a frame for it.
+#[inline(never)]
+fn add_new<F: Frames>(
+    zero: &[u64],
+    pool: &mut F,
+    token: &mut F::Token,
+    page: u32,
+    own: &[Write],
+    fresh: &mut Vec<Held>,
+) -> Result<(), Lack>
+    requires name { (F.seen token.old).name ≡ F.name pool.old }
+    requires own { AllOn page own.now }
+    ensures ok { OnOk result (Added page (after own.now page (zero_page zero.now page)) (F.numbers pool.old) (F.seen token.old) (F.seen token.new)
+        (pages_of fresh.old.items) (pages_of fresh.new.items)) }
+    ensures err { OnErr result (pages_of fresh.new.items ≡ pages_of fresh.old.items) }
+    ensures lack { IfErr result (λ lack. OnLack lack
+        (NoFrame (F.numbers pool.old) (F.seen token.old) (F.seen token.new))
+        (F.seen token.new ≡ F.seen token.old)) }
+    ensures kept { Keeps (F.numbers pool.old) (F.seen token.old ∷ []) (F.numbers pool.new) (F.seen token.new ∷ []) }
+    ensures pool { SamePool (F.name pool.old) (F.numbers pool.old) (F.name pool.new) (F.numbers pool.new) }
+{
+    add_fresh(pool, token, page, &zero_words(zero, page), own, fresh)
+}
+
+// Takes the words of a held page out to be written.
+fn take_page(held: &mut Vec<Held>, place: usize) -> Result<(), Lack>
+    requires { place < vec_len held.old }
+    ensures pages { pages_of held.new.items ≡ pages_of held.old.items }
+    ensures taken { OnOk result (TakenAt place held.old.items held.new.items) }
+    ensures err { IfErr result (λ lack. lack ≡ Lack.Memory) }
+{
+    let alloc = *held.allocator();
+    match held[place].content.take_or_copy(alloc) {
+        Ok(()) => Ok(()),
+        Err(_) => Err(Lack::Memory),
+    }
+}
+
 // Finds out what writes need that fall on the page of an address, and has it made.
 fn gather_page<F: Frames>(
     zero: &[u64],
-    held: &[Held],
+    held: &mut Vec<Held>,
+    places: &Vec<u32>,
     pool: &mut F,
     token: &mut F::Token,
     at: u32,
@@ -67,58 +111,73 @@ fn gather_page<F: Frames>(
     fresh: &mut Vec<Held>,
 ) -> Result<(), Lack>
     requires name { (F.seen token.old).name ≡ F.name pool.old }
-    requires sorted { IsSorted (pages_of held.now) }
-    requires owns { Owns (pages_of held.now) (pages_of fresh.old.items) (F.seen token.old).frames }
+    requires sorted { IsSorted (pages_of held.old.items) }
+    requires table { IsTable places.now.items (pages_of held.old.items) }
+    requires owns { Owns (pages_of held.old.items) (pages_of fresh.old.items) (F.seen token.old).frames }
     requires some { 0 < length own.now }
     requires own { AllOn (at / 64) own.now }
-    ensures ok { OnOk result (Goes zero.now (pages_of held.now) (at / 64) own.now
+    ensures pages { pages_of held.new.items ≡ pages_of held.old.items }
+    ensures taken { OnOk result (TakesPage (at / 64) held.old.items (pages_of fresh.old.items)
+        held.new.items (pages_of fresh.new.items)) }
+    ensures ok { OnOk result (Goes zero.now (pages_of held.old.items) (at / 64) own.now
         (F.numbers pool.old) (F.seen token.old) (pages_of fresh.old.items)
         (F.numbers pool.new) (F.seen token.new) (pages_of fresh.new.items)) }
-    ensures err { IfErr result (Ends zero.now (pages_of held.now) (at / 64) own.now
+    ensures err { IfErr result (Ends zero.now (pages_of held.old.items) (at / 64) own.now
         (F.numbers pool.old) (F.seen token.old) (pages_of fresh.old.items)
         (F.numbers pool.new) (F.seen token.new) (pages_of fresh.new.items)) }
     ensures pool { SamePool (F.name pool.old) (F.numbers pool.old) (F.name pool.new) (F.numbers pool.new) }
 {
     let page = at / 64;
-    let Ok(place) = find(held, page) else {
-        let words = written_words(&zero_words(zero, page), page, own);
-        return add_fresh(pool, token, page, words, fresh);
+    let Some(place) = place_in(places, page) else {
+        return add_new(zero, pool, token, page, own, fresh);
     };
-    let one = &held[place];
-    if pool.look(token, one.frame) {
-        return Ok(());
+    let frame = held[place].frame;
+    if pool.look(token, frame) {
+        return take_page(held, place);
     }
-    let words = written_words(&one.content, page, own);
-    add_fresh(pool, token, page, words, fresh)
+    add_fresh(
+        pool,
+        token,
+        page,
+        held[place].content.words(),
+        own,
+        fresh,
+    )
 }
 
-/// Makes the content and claims the frame of each page that is new or whose frame is shared.
+/// Makes the content and claims the frame of each page that is new or whose frame is shared, and takes the
+/// words of the others out to be written.
 pub(crate) fn gather<F: Frames>(
     zero: &[u64],
-    held: &[Held],
+    held: &mut Vec<Held>,
+    places: &Vec<u32>,
     pool: &mut F,
     token: &mut F::Token,
     writes: &[Write],
     fresh: &mut Vec<Held>,
 ) -> Result<(), Lack>
     requires name { (F.seen token.old).name ≡ F.name pool.old }
-    requires sorted { IsSorted (pages_of held.now) }
-    requires held { IsHeld (pages_of held.now) (F.seen token.old).frames }
+    requires sorted { IsSorted (pages_of held.old.items) }
+    requires table { IsTable places.now.items (pages_of held.old.items) }
+    requires held { IsHeld (pages_of held.old.items) (F.seen token.old).frames }
     requires writes { AreWrites (length zero.now) writes.now }
     requires none { fresh.old.items ≡ [] }
-    ensures ok { OnOk result (Gathered zero.now (pages_of held.now) writes.now
+    ensures pages { pages_of held.new.items ≡ pages_of held.old.items }
+    ensures taken { OnOk result ((p : ℕ) → touches p writes.now ≡ true
+        → AtHand held.new.items (pages_of fresh.new.items) p) }
+    ensures ok { OnOk result (Gathered zero.now (pages_of held.old.items) writes.now
         (F.numbers pool.old) (F.seen token.old) (F.numbers pool.new) (F.seen token.new) (pages_of fresh.new.items)) }
     ensures err { IfErr result (λ lack. OnLack lack
-        (Short (pages_of held.now) writes.now
+        (Short (pages_of held.old.items) writes.now
         (F.numbers pool.old) (F.seen token.old) (F.numbers pool.new) (F.seen token.new) (pages_of fresh.new.items))
-        (Unmade (pages_of held.now)
+        (Unmade (pages_of held.old.items)
         (F.numbers pool.old) (F.seen token.old) (F.numbers pool.new) (F.seen token.new) (pages_of fresh.new.items))) }
     ensures pool { SamePool (F.name pool.old) (F.numbers pool.old) (F.name pool.new) (F.numbers pool.new) }
 {
     let mut rest = writes;
     while let Some(first) = rest.first() {
         let (own, more) = split_page(first.at / 64, rest);
-        if let Err(lack) = gather_page(zero, held, pool, token, first.at, own, fresh) {
+        if let Err(lack) = gather_page(zero, held, places, pool, token, first.at, own, fresh) {
             return Err(lack);
         }
         rest = more;

@@ -1,64 +1,17 @@
-ghost use Rattle.std.specs.Prelude.{◌≡◌, ℕ, ◌+◌, ◌<◌, ◌≤◌, true, cond, [], ◌∷◌, vec_len, vec_capacity, map, Some, OnOk, OnErr};
+ghost use Rattle.std.specs.Prelude.{◌≡◌, ℕ, ◌+◌, ◌<◌, ◌≤◌, true, cond, [], ◌∷◌, vec_len, vec_capacity, Some};
 ghost use Rattle.std.specs.Option.{option_map};
 ghost use Rattle.vf_frames.specs.Holders.{Keeps, SamePool};
 ghost use Rattle.vf_frames.specs.Calls.{SameRest, NotesGrow, NoWin};
 ghost use Rattle.vf_frames.specs.Numbers.{has};
 ghost use Rattle.vf_pages.specs.Pages.{Page, IsSorted, IsHeld, Owns, entry};
 ghost use Rattle.vf_pages.specs.Views.{pages_of, page_of};
-ghost use Rattle.vf_pages.specs.Writes.{AreWrites};
 ghost use Rattle.vf_pages.specs.Puts.{put, puts, frame_count};
-ghost use Rattle.vf_pages.specs.InPlace.{in_place};
 
-use crate::content::write_words;
-use crate::copies::write_copies;
 use crate::held::Held;
 use crate::merge::merge;
-use crate::search::{find, kept_place, split_page};
-use std::alloc::Global;
+use crate::search::find;
 use std::mem;
-use std::sync::Arc;
-use vf_base::{Memory, Write};
 use vf_frames::Frames;
-
-/// Writes the pages that have no fresh one where they are. From the first whose content another holder
-/// still reads, and past the first `depth`, they get new contents. No page is written before all
-/// contents are there, so after want of memory nothing has changed.
-pub(crate) fn write_in_place(
-    alloc: Global,
-    held: &mut [Held],
-    fresh: &[Held],
-    writes: &[Write],
-    words: usize,
-    depth: u32,
-) -> Result<(), Memory>
-    requires sorted { IsSorted (pages_of held.old) }
-    requires fresh { IsSorted (pages_of fresh.now) }
-    requires writes { AreWrites words writes.now }
-    ensures ok { OnOk result (pages_of held.new ≡ map (in_place writes.now (pages_of fresh.now)) (pages_of held.old)) }
-    ensures err { OnErr result (pages_of held.new ≡ pages_of held.old) }
-{
-    let Some(first) = writes.first() else {
-        return Ok(());
-    };
-    let Some(depth) = depth.checked_sub(1) else {
-        return write_copies(alloc, held, fresh, writes, words);
-    };
-    let page = first.at / 64;
-    let (own, more) = split_page(page, writes);
-    let Some(place) = kept_place(held, fresh, page) else {
-        return write_in_place(alloc, held, fresh, more, words, depth);
-    };
-    let (_, behind) = held.split_at_mut(place);
-    let Some((slot, later)) = behind.split_first_mut() else {
-        return Ok(());
-    };
-    let Some(content) = Arc::get_mut(&mut slot.content) else {
-        return write_copies(alloc, held, fresh, writes, words);
-    };
-    write_in_place(alloc, later, fresh, more, words, depth)?;
-    write_words(content, page, own);
-    Ok(())
-}
 
 // Puts a page in its place. There is room for it.
 fn put_page(held: &mut Vec<Held>, one: Held) -> Option<Held>

@@ -9,19 +9,17 @@
 mod base;
 mod change;
 mod content;
-mod copies;
 mod gather;
 mod held;
 mod install;
+mod kept;
 mod merge;
 mod paged;
+mod places;
 mod refusal;
 mod search;
 mod share;
 
-pub use held::{Held, PageNo};
+pub use held::PageNo;
 pub use paged::Paged;
 pub use refusal::PageRefusal;
-
-#[cfg(test)]
-mod tests;

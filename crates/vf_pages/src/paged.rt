@@ -9,7 +9,7 @@ use crate::content::word_in;
 use crate::gather::give_up;
 use crate::held::{Held, PageNo};
 use crate::refusal::PageRefusal;
-use crate::search::find;
+use crate::places::{empty_table, forget_places, note_places, place_in};
 use crate::share::{hold_all, share};
 use std::alloc::Global;
 use std::marker::Model;
@@ -24,6 +24,8 @@ use vf_frames::Frames;
 pub struct Paged<F: Frames> {
     zero: Arc<Vec<u64>>,
     held: Vec<Held>,
+    // By the number of a page: its place in `held`, from 1 on, or 0.
+    places: Vec<u32>,
     token: F::Token,
 }
 
@@ -33,11 +35,14 @@ impl<F: Frames> Model for Paged<F> {
 
     ghost Value = { Pages };
 
+    ghost use Rattle.std.specs.Prelude.{◌*◌, ◌≤◌, length};
     ghost use Rattle.vf_pages.specs.Views.{pages_of, shown};
+    ghost use Rattle.vf_pages.specs.Places.{IsTable};
 
     ghost view = { λ p. shown (arc_value p.zero).items p.held.items (F.seen p.token) };
 
-    ghost invariant = { λ p. IsSorted (pages_of p.held.items) × IsHeld (pages_of p.held.items) (F.seen p.token).frames };
+    ghost invariant = { λ p. IsSorted (pages_of p.held.items) × IsHeld (pages_of p.held.items) (F.seen p.token).frames
+        × IsTable p.places.items (pages_of p.held.items) × (length (arc_value p.zero).items ≤ 64 * length p.places.items) };
 }
 
 impl<F: Frames> Paged<F> {
@@ -62,24 +67,25 @@ impl<F: Frames> Paged<F> {
             (λ _. Keeps (F.numbers pool.old) (F.seen from.old ∷ []) (F.numbers pool.new) (F.seen from.new ∷ [])) }
         ensures pool { SamePool (F.name pool.old) (F.numbers pool.old) (F.name pool.new) (F.numbers pool.new) }
     {
+        let places = empty_table(alloc, zero.len() / 64 + 1)?;
         let token = pool.open(from, 1)?;
         Ok(Paged {
             zero,
             held: Vec::new(alloc),
+            places,
             token,
         })
     }
 
-    /// The word at an address, in time logarithmic in the number of pages held.
+    /// The word at an address, in a time that does not depend on the number of pages held.
     pub fn read(&self, at: u32) -> u64
         requires { at < length self.now.zero }
         ensures { result ≡ word_of self.now at }
     {
-        let Ok(place) = find(&self.held, at / 64) else {
+        let Some(place) = place_in(&self.places, at / 64) else {
             return self.zero[at as usize];
         };
-        let one = &self.held[place];
-        word_in(&one.content, at)
+        word_in(self.held[place].content.words(), at)
     }
 
     /// Writes words at rising addresses. A page that is not held gets a claimed frame, and so does one
@@ -110,7 +116,14 @@ impl<F: Frames> Paged<F> {
         ensures kept { Keeps (F.numbers pool.old) (self.old.holder ∷ []) (F.numbers pool.new) (self.new.holder ∷ []) }
         ensures pool { SamePool (F.name pool.old) (F.numbers pool.old) (F.name pool.new) (F.numbers pool.new) }
     {
-        change(&self.zero, &mut self.held, pool, &mut self.token, writes)
+        change(
+            &self.zero,
+            &mut self.held,
+            &mut self.places,
+            pool,
+            &mut self.token,
+            writes,
+        )
     }
 
     /// How many pages are held: never more than the pool has frames.
@@ -129,7 +142,7 @@ impl<F: Frames> Paged<F> {
         ensures { IsPageAt self.now.pages at result.0.0 result.1.now }
     {
         let one = &self.held[at as usize];
-        (one.page, &one.content)
+        (one.page, one.content.words())
     }
 
     /// How many claims of this holder found no frame. The number stands still at 2^64 - 1.
@@ -158,9 +171,15 @@ impl<F: Frames> Paged<F> {
     {
         let zero = Arc::try_clone(&self.zero)?;
         let held = share(*self.held.allocator(), &self.held)?;
+        let places = self.places.clone()?;
         let mut token = pool.open(from, 1)?;
         hold_all(pool, &self.token, &mut token, &self.held);
-        Ok(Paged { zero, held, token })
+        Ok(Paged {
+            zero,
+            held,
+            places,
+            token,
+        })
     }
 
     /// Another holder of these pages and, under them, of those of a base, with one of the parts of `from`.
@@ -191,6 +210,7 @@ impl<F: Frames> Paged<F> {
         if !are_apart(alloc, &own, &held)? {
             return Err(Memory);
         }
+        let mut places = empty_table(alloc, self.places.len().max(base.places.len()))?;
         let mut token = pool.open(from, 1)?;
         hold_over(
             pool,
@@ -201,7 +221,13 @@ impl<F: Frames> Paged<F> {
             own,
             spare,
         );
-        Ok(Paged { zero, held, token })
+        note_places(&held, &mut places);
+        Ok(Paged {
+            zero,
+            held,
+            places,
+            token,
+        })
     }
 
     /// Drops the pages that a base has with the same words, and releases their frames. It takes no
@@ -213,6 +239,8 @@ impl<F: Frames> Paged<F> {
         ensures pool { SamePool (F.name pool.old) (F.numbers pool.old) (F.name pool.new) (F.numbers pool.new) }
     {
         drop_unchanged(pool, &mut self.token, &mut self.held, &base.held);
+        forget_places(&mut self.places);
+        note_places(&self.held, &mut self.places);
     }
 
     /// Releases every frame and gives the misses and parts to another holder.
@@ -226,6 +254,7 @@ impl<F: Frames> Paged<F> {
         let Paged {
             zero: _,
             held,
+            places: _,
             mut token,
         } = self;
         give_up(pool, &mut token, held);

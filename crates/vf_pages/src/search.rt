@@ -1,4 +1,4 @@
-ghost use Rattle.std.specs.Prelude.{◌≡◌, ◌≢◌, ◌⊎◌, ◌/◌, ◌<◌, ◌≤◌, take, drop, length, None, IfSome, IfNone, MatchResult};
+ghost use Rattle.std.specs.Prelude.{◌≡◌, ◌/◌, ◌<◌, ◌≤◌, take, drop, length, MatchResult};
 ghost use Rattle.vf_pages.specs.Pages.{IsSorted, IsPlace, IsGap, entry, page_limit};
 ghost use Rattle.vf_pages.specs.Views.{pages_of};
 ghost use Rattle.vf_pages.specs.Writes.{own, beyond, AreWrites, written_pages};
@@ -37,24 +37,6 @@ pub(crate) fn find(held: &[Held], page: u32) -> Result<usize, usize>
         }
     }
     Err(low)
-}
-
-/// Where a page stands that is held and has no fresh one.
-pub(crate) fn kept_place(held: &[Held], fresh: &[Held], page: u32) -> Option<usize>
-    requires held { IsSorted (pages_of held.now) }
-    requires fresh { IsSorted (pages_of fresh.now) }
-    ensures some { IfSome result
-        (λ i. IsPlace page (pages_of held.now) i × (entry page (pages_of fresh.now) ≡ None)) }
-    ensures none { IfNone result
-        ((entry page (pages_of held.now) ≡ None) ⊎ (entry page (pages_of fresh.now) ≢ None)) }
-{
-    let Ok(place) = find(held, page) else {
-        return None;
-    };
-    match find(fresh, page) {
-        Ok(_) => None,
-        Err(_) => Some(place),
-    }
 }
 
 // How many writes at the front fall on a page.

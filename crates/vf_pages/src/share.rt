@@ -6,7 +6,6 @@ ghost use Rattle.vf_pages.specs.Views.{pages_of};
 
 use crate::held::Held;
 use std::alloc::Global;
-use std::sync::Arc;
 use vf_base::Memory;
 use vf_frames::Frames;
 
@@ -19,7 +18,7 @@ pub(crate) fn share(alloc: Global, held: &[Held]) -> Result<Vec<Held>, Memory>
         copy.push(Held {
             page: one.page,
             frame: one.frame,
-            content: Arc::try_clone(&one.content)?,
+            content: one.content.share(alloc)?,
         })?;
     }
     Ok(copy)

@@ -17,7 +17,7 @@ returns-clause-ok g c =
     let named = ap (λ (n : Name). n.frames) claimed.rest.name in
     record {
       frame = frame;
-      is = pages-last _ _ _ c.push_reserved.ensures.items ∙ ap₂ (λ es ws. pages_of es ++ record { page = c.args.page; frame = frame; words = ws } ∷ []) c.in-Ok-reserve.ensures.items c.in-Ok.ensures.ok;
+      is = pages-last _ _ _ c.push_reserved.ensures.items ∙ ap₂ (λ es ws. pages_of es ++ record { page = c.args.page; frame = frame; words = ws } ∷ []) c.in-Ok-reserve.ensures.items (c.in-Ok.ensures ∙ c.written_words.ensures);
       within = omega (arith, bound.1, named);
       claimed = claimed;
       unheld = λ others a. c.in-Some.ensures.free others a;

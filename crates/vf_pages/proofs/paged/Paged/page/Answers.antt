@@ -14,5 +14,5 @@ returns g c =
     let below = subst (λ (m : Pages). c.args.at < length m.pages) (sym c.self.view_is) c.requires in
     omega (arith, below, length-pages held) in
     let there = page-get held c.args.at one within ∙ ap (λ (h : Held). Some (page_of h)) (sym c.index-one.ensures) in
-    subst (λ (m : Pages). IsPageAt m.pages c.args.at one.page.0 c.deref.result.now) c.self.view_is
-    (record { there = page_of one; is = there; number_is = refl; words_are = c.deref.ensures })
+    subst (λ (m : Pages). IsPageAt m.pages c.args.at one.page.0 c.words.result.now) c.self.view_is
+    (record { there = page_of one; is = there; number_is = refl; words_are = c.words.ensures })

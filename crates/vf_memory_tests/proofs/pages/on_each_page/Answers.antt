@@ -2,8 +2,8 @@ use Rattle.std.proofs.Common.{◌≡◌, ◌*◌, ◌+◌, ap, ◌∙◌, true, 
 use Rattle.std.proofs.lemmas.List.{map-append}
 use Rattle.vf_frames.specs.Numbers.{rises}
 use Rattle.vf_pages.specs.Writes.{AreWrites, address}
-use Rattle.vf_pages.proofs.Entries.{rises-behind}
-use Rattle.vf_pages.proofs.tests.on_each_page.Goals as goal
+use Rattle.vf_pages.proofs.CallerLemmas.{rises-behind}
+use Rattle.vf_memory_tests.proofs.pages.on_each_page.Goals as goal
 
 pub loop-page-init : goal.loop-page-init
 loop-page-init c = rw c.new-writes.ensures.items refl
@@ -13,7 +13,7 @@ loop-page-preserved c =
     let before = c.loop-page.writes.items in
     let at = 64 * c.loop-page.page in
     ap (λ ws. rises 0 (64 * (c.loop-page.page + 1)) (map address ws)) c.in_ok-push.ensures.items
-    ∙ ap (rises 0 (64 * (c.loop-page.page + 1))) (map-append address before ((at, c.args.value) ∷ []))
+    ∙ ap (rises 0 (64 * (c.loop-page.page + 1))) (map-append address before (record { at = at; word = c.args.value } ∷ []))
     ∙ rises-behind 0 at (64 * (c.loop-page.page + 1)) at (map address before) c.loop-page.invariant (omega arith) (omega arith) (omega arith)
 
 pub returns : goal.returns
