@@ -31,20 +31,10 @@ use Rattle.vf_journal.specs.Journal.{IsJournal, free, of_solo, IsOfSolo, Reaches
 use Rattle.vf_journal.specs.Machine as farm
 use Rattle.vf_journal.specs.Machine.{World, Event, turned, made, Runs, MayCome, MayMake, MayTurn, MaySave, MayPass, MayEnd, MayPassBudget, seen_in, image_point, outcome_at, pages_next, point_from, put_run, with_points, with_event, turns_at}
 use Rattle.vf_journal.specs.Laws.{ReadsGoOn, IsSavePoint, IsCore, CoreLaw}
+use Rattle.vf_journal.proofs.JobLemmas.{same_node, same_job-true}
 use Rattle.vf_journal.proofs.PointLemmas.{IsRunAt, point_in-suc, run_at_zero, run_at-suc, turns_at_point, turns_within}
 use Rattle.vf_journal.proofs.DecisionLemmas.{SavesAt, Stands, savepoint_is, save_unique, kind_saved, kind_passed, kind_over, kind_ended, outcome_ended, outcome_passed, passing_goes, ends_at}
 use Rattle.vf_journal.proofs.StartLemmas.{run_from_image, find_holds, IsServed, origin_serves, origin_alike}
-
--- ---- jobs that are the same
-
-pub same_node : (a b : NodeNo) → (a.0 == b.0) ≡ true → a ≡ b
-same_node a b h = let e = eqb-true a.0 b.0 h in λ x. record { 0 = e x }
-
-pub same_job-true : (a b : Job) → same_job a b ≡ true → a ≡ b
-same_job-true (Reach a) (Reach b) h = ap Reach (same_node a b h)
-same_job-true (Reach a) (Finish b) h = absurd (false≢true h)
-same_job-true (Finish a) (Reach b) h = absurd (false≢true h)
-same_job-true (Finish a) (Finish b) h = ap Finish (same_node a b h)
 
 -- ---- a job that runs after an entry has run before, or starts with it
 

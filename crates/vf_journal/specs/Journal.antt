@@ -154,12 +154,9 @@ pub data IsJournal {S : Type 0} (f : Farm S) (choice : Choice) : List Entry → 
       → IsJournal f choice (js ++ e ∷ consequences f (of_solo f) r e) (after f (of_solo f) r e)
 
 -- the records that entries bring about, one after another; a Copy or Retire entry is part of what caused it, and changes nothing more
-abbrev pub after_entry : {S : Type 0} → Farm S → Records → Entry → Records
-after_entry f r e = after f (of_solo f) r e
-
-unfoldable pub replay : {S : Type 0} → Farm S → Records → List Entry → Records
-replay f r [] = r
-replay f r (e ∷ more) = replay f (after_entry f r e) more
+unfoldable pub replay : {S : Type 0} → Farm S → Seen → Records → List Entry → Records
+replay f seen r [] = r
+replay f seen r (e ∷ more) = replay f seen (after f seen r e) more
 
 -- ---- turns and pages of attempts
 
@@ -195,7 +192,7 @@ closed_turns r (Some closing) = turns_since (r.stages closing.job) closing.turn
 -- the turns of the attempts that the entries close, from the records before them
 unfoldable pub turns_from : {S : Type 0} → Farm S → Records → List Entry → ℕ
 turns_from f r [] = 0
-turns_from f r (e ∷ more) = closed_turns r (closing_of e) + turns_from f (after_entry f r e) more
+turns_from f r (e ∷ more) = closed_turns r (closing_of e) + turns_from f (after f (of_solo f) r e) more
 
 -- the turns of the attempts that run, where `at` tells how far each has come
 abbrev pub running_turns : {S : Type 0} → Farm S → Records → (Job → ℕ) → ℕ
@@ -203,7 +200,7 @@ running_turns f r at = sum_by (λ job. turns_since (r.stages job) (at job)) (job
 
 -- all turns that a farm has made: those of closed attempts, and of those that run
 abbrev pub turns_of : {S : Type 0} → Farm S → List Entry → (Job → ℕ) → ℕ
-turns_of f js at = turns_from f at_first js + running_turns f (replay f at_first js) at
+turns_of f js at = turns_from f at_first js + running_turns f (replay f (of_solo f) at_first js) at
 
 abbrev pub pages_in : {S : Type 0} → Farm S → Job → ℕ → ℕ
 pages_in f job k = count_pages f (point_in f job k).touched
@@ -255,4 +252,4 @@ IsTightAt f at r Rest more = Unit {0}
 -- no image is evicted too early in these entries
 unfoldable pub IsTight : {S : Type 0} → Farm S → (Job → ℕ) → Records → List Entry → Type 0
 IsTight f at r [] = Unit {0}
-IsTight f at r (e ∷ more) = IsTightAt f at r e more × IsTight f at (after_entry f r e) more
+IsTight f at r (e ∷ more) = IsTightAt f at r e more × IsTight f at (after f (of_solo f) r e) more

@@ -1,16 +1,23 @@
 -- The laws of farms and journals, over any machine. Each is the contract of a function of `laws`.
-use Rattle.std.specs.Prelude.{◌≡◌, ℕ, Bool, true, false, List, Option, Some, None}
+use Rattle.std.specs.Prelude.{◌≡◌, ◌⊎◌, ℕ, ◌+◌, Bool, true, false, List, ◌∷◌, ◌++◌, Option, Some, None, is_some}
 use Rattle.std.specs.List.{All}
 use Rattle.vf_base.specs.declared.names.Job.{Job}
 use Rattle.vf_base.specs.declared.names.Job.TheVariants.{Reach, Finish}
+use Rattle.vf_base.specs.declared.names.NodeNo.{NodeNo}
+use Rattle.vf_base.specs.declared.run.Outcome.{Outcome}
+use Rattle.vf_base.specs.declared.run.SaveKind.{SaveKind}
 use Rattle.vf_machine.specs.Machine.{Machine, Move, go, stop, Sight}
 use Rattle.vf_plan.specs.Rules.{IsPlan}
+use Rattle.vf_jobs.specs.Kinds as solo
 use Rattle.vf_jobs.specs.Kinds.{savepoint_of_node}
 use Rattle.vf_journal.specs.declared.entry.Entry.{Entry}
 use Rattle.vf_journal.specs.Farm.{Farm, point_in}
-use Rattle.vf_journal.specs.Records.{Held, Attempt}
-use Rattle.vf_journal.specs.Effects.{IsRunning}
-use Rattle.vf_journal.specs.Journal.{IsJournal, free}
+use Rattle.vf_journal.specs.declared.entry.Kind.{Kind}
+use Rattle.vf_journal.specs.declared.entry.Kind.TheVariants as kinds
+use Rattle.vf_journal.specs.declared.entry.Told.TheVariants as told
+use Rattle.vf_journal.specs.Records.{Held, Attempt, Records, at_first, is_job, is_ready, is_running, is_deferred, is_over, some_job, told_by, outcome_told}
+use Rattle.vf_journal.specs.Effects.{IsRunning, consequences}
+use Rattle.vf_journal.specs.Journal.{IsJournal, Choice, free, of_solo, kind_of, replay, turns_from, closed_turns, closing_of}
 use Rattle.vf_journal.specs.Machine.{World, Event, Runs, turns_at}
 
 abbrev pub goes_on : {S : Type 0} → Move S → Bool
@@ -37,3 +44,51 @@ pub record IsCore {S : Type 0} (f : Farm S) (js : List Entry) (w : World S) : Ty
 -- The core law: whatever jobs start, whatever images are evicted, and however the turns of jobs interleave.
 abbrev pub CoreLaw : {S : Type 0} → Farm S → Type 0
 CoreLaw {S} f = IsPlan f.nodes → ReadsGoOn f.machine → (es : List Event) (js : List Entry) (w : World S) → Runs f es js w → IsCore f js w
+
+-- ---- what a journal tells
+
+-- the kind of a node is that of the solo run that reaches it
+abbrev pub IsKind : {S : Type 0} → Farm S → NodeNo → Kind → Type 0
+IsKind f n kinds.Unknown = Unit {0}
+IsKind f n (kinds.Saved turn) = (save : SaveKind) × (kind_of f n ≡ Some (solo.saved turn save))
+IsKind f n kinds.Passed = (turn : ℕ) × (kind_of f n ≡ Some (solo.passed turn))
+IsKind f n kinds.Ended = (turn : ℕ) × (kind_of f n ≡ Some (solo.ended turn))
+IsKind f n kinds.Over = (turn : ℕ) × (kind_of f n ≡ Some (solo.over turn))
+IsKind f n kinds.Lost = Unit {0}
+
+-- each outcome told is that of the job's solo run, and each kind that of its node
+pub record IsTold {S : Type 0} (f : Farm S) (r : Records) : Type 0 where
+  pub outcomes : (job : Job) (outcome : Outcome) → outcome_told r job ≡ Some outcome → outcome ≡ (of_solo f).outcome job
+  pub kinds : (n : NodeNo) → IsKind f n (r.kinds n.0)
+
+abbrev pub TellsSolo : {S : Type 0} → Farm S → Type 0
+TellsSolo {S} f = IsPlan f.nodes → (choice : Choice) (js : List Entry) (r : Records) → IsJournal f choice js r → IsTold f r
+
+-- ---- where a farm has done its work
+
+-- no job is ready, running or deferred
+pub record IsDone {S : Type 0} (f : Farm S) (r : Records) : Type 0 where
+  pub ready : some_job f (is_ready f r) ≡ false
+  pub running : some_job f (λ job. is_running (r.stages job)) ≡ false
+  pub deferred : some_job f (λ job. is_deferred (r.stages job)) ≡ false
+
+-- each job of the plan is over, and each test that was not lost has an outcome
+pub record IsWhole {S : Type 0} (f : Farm S) (r : Records) : Type 0 where
+  pub over : (job : Job) → is_job f.nodes job ≡ true → is_over (r.stages job) ≡ true
+  pub told : (n : NodeNo) → is_job f.nodes (Finish n) ≡ true
+      → (told_by (r.stages (Finish n)) ≡ Some told.Lost) ⊎ (is_some (outcome_told r (Finish n)) ≡ true)
+
+abbrev pub EndsWhole : {S : Type 0} → Farm S → Type 0
+EndsWhole {S} f = IsPlan f.nodes → (choice : Choice) (js : List Entry) (r : Records) → IsJournal f choice js r → IsDone f r → IsWhole f r
+
+-- ---- a journal and its entries
+
+-- the records that a journal comes to are its replay
+abbrev pub IsReplayed : {S : Type 0} → Farm S → Type 0
+IsReplayed {S} f = (choice : Choice) (js : List Entry) (r : Records) → IsJournal f choice js r → r ≡ replay f (of_solo f) at_first js
+
+-- an entry with what follows from it adds the turns of the attempt that it closes
+abbrev pub TurnsAddUp : {S : Type 0} → Farm S → Type 0
+TurnsAddUp {S} f =
+    (choice : Choice) (js : List Entry) (r : Records) (e : Entry) → IsJournal f choice js r
+    → turns_from f at_first (js ++ e ∷ consequences f (of_solo f) r e) ≡ turns_from f at_first js + closed_turns r (closing_of e)
