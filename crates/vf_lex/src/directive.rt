@@ -42,9 +42,9 @@ pub(crate) enum Step<'a> {
     /// Reading goes on with the rest.
     Goes(&'a [u8]),
     /// The name is defined by the macro text that the bytes begin with.
-    Defines(&'a [u8], &'a [u8]),
+    Defines { name: &'a [u8], bytes: &'a [u8] },
     /// The text of a macro is read, and then the rest.
-    Uses(Vec<u8>, &'a [u8]),
+    Uses { body: Vec<u8>, rest: &'a [u8] },
 }
 
 /// Whether two names are the same. Most differ in length, which is looked at first, without a call.
@@ -282,13 +282,16 @@ fn other_effect<'a>(
 {
     match directive_of(name) {
         Directive::Define => {
-            let (name, text) = define_effect(after_line_blanks(bytes))?;
-            Ok(Step::Defines(name, text))
+            let (name, bytes) = define_effect(after_line_blanks(bytes))?;
+            Ok(Step::Defines { name, bytes })
         }
         Directive::Undef => Ok(Step::Goes(undef_effect(alloc, reader, after_blanks(bytes))?)),
         Directive::Include => Err(LexKind::LeftOut),
         Directive::Skipped => Ok(Step::Goes(after_line(bytes))),
-        Directive::Use => Ok(Step::Uses(used_text(alloc, reader, name)?, bytes)),
+        Directive::Use => Ok(Step::Uses {
+            body: used_text(alloc, reader, name)?,
+            rest: bytes,
+        }),
     }
 }
 

@@ -185,11 +185,11 @@ fn step<'a>(
 {
     match element(alloc, reader, spot.place, text) {
         Ok(Step::Goes(rest)) => Ok(rest),
-        Ok(Step::Defines(name, bytes)) => match define(alloc, reader, name, bytes) {
+        Ok(Step::Defines { name, bytes }) => match define(alloc, reader, name, bytes) {
             Ok(rest) => Ok(rest),
             Err(_) => Err(fault_at(LexKind::Memory, spot)),
         },
-        Ok(Step::Uses(body, rest)) => {
+        Ok(Step::Uses { body, rest }) => {
             let body = body.as_slice();
             if let Some(kind) = use_fault(reader, spot, body) {
                 return Err(fault_at(kind, spot));
