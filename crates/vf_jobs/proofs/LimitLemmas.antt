@@ -10,12 +10,12 @@ use Rattle.vf_base.specs.declared.run.Header.{Header}
 use Rattle.vf_base.specs.declared.run.Limits.{Limits}
 use Rattle.vf_plan.specs.declared.plan.Node.{Node}
 use Rattle.vf_plan.specs.Paths.{at_parent, grown, path, with_number}
-use Rattle.vf_plan.specs.Rules.{IsPlan, IsNodeBehind}
+use Rattle.vf_plan.specs.Rules.{IsPlan, IsNodeAfter}
 use Rattle.vf_jobs.specs.Setup.{IsInRange}
 use Rattle.vf_jobs.specs.Subtree.{is_below}
 use Rattle.vf_jobs.specs.Limits.{turns_of, output_of, greater, larger, greatest_from, greatest_below, first_some, reach_limit, limits_at, limits_of, limits_of_test, limits_of_found, ReachLimitsFall, TestsAreWithin}
 use Rattle.vf_jobs.specs.Tables.{IsGreatest, AreGreatest, AreLimits, greater_of}
-use Rattle.vf_jobs.specs.Jobs.{fits, FitsAbove}
+use Rattle.vf_jobs.specs.Jobs.{fits, node_of, IsJob, FitsAbove}
 use Rattle.vf_plan.proofs.CallerLemmas.{path-at}
 use Rattle.vf_jobs.proofs.SubtreeLemmas.{IsBelow, itself, under, Descends, descends, below, is_above, top_first, up, none_past, below-root, below-parent}
 
@@ -165,6 +165,23 @@ pub tests_within : TestsAreWithin
 tests_within limit_of given nodes top n test plan e t b =
     within limit_of given nodes (descends nodes plan) top n test e t (below nodes top (descends nodes plan) n b)
 
+-- the limits of a job are at most those of the job that reaches a node on its path
+pub limits_lower : (given : Limits) (nodes : List Node) (top : NodeNo) (job : Job) → IsPlan nodes → IsJob nodes job → is_below nodes top.0 (node_of job) ≡ true
+    → ((limits_of given nodes job).turns ≤ (limits_of given nodes (Reach top)).turns) × ((limits_of given nodes job).output ≤ (limits_of given nodes (Reach top)).output)
+limits_lower given nodes top (Reach n) plan job b =
+    let down = descends nodes plan in
+    let lower = below nodes top.0 down n.0 b in
+    (deeper (turns_of given.turns) given.turns nodes down top.0 n.0 lower, deeper (output_of given.output) given.output nodes down top.0 n.0 lower)
+limits_lower given nodes top (Finish n) plan job b =
+    let down = descends nodes plan in
+    let lower = below nodes top.0 down n.0 b in
+    let found : limits_of given nodes (Finish n) ≡ limits_of_test given job.0 = ap (limits_of_found given) job.1 in
+    let turns = ap (λ (l : Limits). l.turns) found in
+    let output = ap (λ (l : Limits). l.output) found in
+    let most_turns = within (turns_of given.turns) given.turns nodes down top.0 n.0 job.0 job.1 job.2 lower in
+    let most_output = within (output_of given.output) given.output nodes down top.0 n.0 job.0 job.1 job.2 lower in
+    (omega (arith, turns, most_turns), omega (arith, output, most_output))
+
 fits-more : (few many : Limits) (header : Header) → few.turns ≤ many.turns → few.output ≤ many.output → fits few header ≡ true → fits many header ≡ true
 fits-more few many header t o h = by (nat_le header.turns few.turns) (nat_le header.written few.output) refl refl h
   where
@@ -177,19 +194,9 @@ fits-more few many header t o h = by (nat_le header.turns few.turns) (nat_le hea
     by false b ea eb h = cc
 
 pub fits_further_up : FitsAbove
-fits_further_up given nodes top (Reach n) header plan job b h =
-    let down = descends nodes plan in
-    let lower = below nodes top.0 down n.0 b in
-    fits-more (limits_of given nodes (Reach n)) (limits_of given nodes (Reach top)) header
-    (deeper (turns_of given.turns) given.turns nodes down top.0 n.0 lower) (deeper (output_of given.output) given.output nodes down top.0 n.0 lower) h
-fits_further_up given nodes top (Finish n) header plan job b h =
-    let down = descends nodes plan in
-    let lower = below nodes top.0 down n.0 b in
-    let test = job.0 in
-    fits-more (limits_of_found given (Some test)) (limits_of given nodes (Reach top)) header
-    (within (turns_of given.turns) given.turns nodes down top.0 n.0 test job.1 job.2 lower)
-    (within (output_of given.output) given.output nodes down top.0 n.0 test job.1 job.2 lower)
-    (subst (λ o. fits (limits_of_found given o) header ≡ true) job.1 h)
+fits_further_up given nodes top job header plan is_job b h =
+    let lower = limits_lower given nodes top job plan is_job b in
+    fits-more (limits_of given nodes job) (limits_of given nodes (Reach top)) header lower.0 lower.1 h
 
 -- ---- the table of limits
 
@@ -337,7 +344,7 @@ empty : (limit_of : Node → ℕ) (here : ℕ → Bool) (n : ℕ) → greatest_f
 unfolding greatest_from
 empty limit_of here n = refl
 
--- behind the last node there is no test
+-- after the last node there is no test
 pub none_taken : (given : Limits) (nodes : List Node) (tops : List (Option Limits)) → tops ≡ replicate (length nodes) None → AreGreatest given nodes (length nodes) tops
 none_taken given nodes tops is = record {
   long = ap length is ∙ length-replicate (length nodes) None;
@@ -384,8 +391,8 @@ module _ (given : Limits) (nodes : List Node) (plan : IsPlan nodes) (range : IsI
   turns_ok : (k : ℕ) (node : Node) → slice_get nodes k ≡ Some node → IsTurns (turns_of given.turns node)
   turns_ok k node e = by node.turns (behind.turns)
     where
-      behind : IsNodeBehind (take k nodes) node
-      behind = subst (λ o. IfSome o (IsNodeBehind (take k nodes))) e (plan.each k)
+      behind : IsNodeAfter (take k nodes) node
+      behind = subst (λ o. IfSome o (IsNodeAfter (take k nodes))) e (plan.each k)
 
       by : (own : Option ℕ) → IfSome own (λ turns. (1 ≤ turns) × (turns ≤ 4294967296) × (node.test ≡ true)) → IsTurns (unwrap_or own given.turns)
       by None h = range.turns
@@ -394,8 +401,8 @@ module _ (given : Limits) (nodes : List Node) (plan : IsPlan nodes) (range : IsI
   output_ok : (k : ℕ) (node : Node) → slice_get nodes k ≡ Some node → IsOutput (output_of given.output node)
   output_ok k node e = by node.output (behind.output)
     where
-      behind : IsNodeBehind (take k nodes) node
-      behind = subst (λ o. IfSome o (IsNodeBehind (take k nodes))) e (plan.each k)
+      behind : IsNodeAfter (take k nodes) node
+      behind = subst (λ o. IfSome o (IsNodeAfter (take k nodes))) e (plan.each k)
 
       by : (own : Option ℕ) → IfSome own (λ output. (output ≤ 262144) × (node.test ≡ true)) → IsOutput (unwrap_or own given.output)
       by None h = range.output

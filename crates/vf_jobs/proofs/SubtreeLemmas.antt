@@ -8,7 +8,7 @@ use Rattle.vf_machine.specs.Machine.{Machine}
 use Rattle.vf_machine.specs.Laws.{PrefixLaw}
 use Rattle.vf_plan.specs.declared.plan.Node.{Node}
 use Rattle.vf_plan.specs.Paths.{at_parent, grown, joined, with_segment, with_number}
-use Rattle.vf_plan.specs.Rules.{IsPlan}
+use Rattle.vf_plan.specs.Rules.{IsPlan, IsNodeAfter}
 use Rattle.vf_jobs.specs.Subtree.{is_below, SharesItsRun}
 use Rattle.vf_plan.proofs.CallerLemmas.{joined-at, path-at, path-past}
 use Rattle.vf_plan.proofs.CallerLemmas.{parent_before}
@@ -105,6 +105,19 @@ begins nodes top n plan (under node parent at up below) =
     let step : joined nodes n ≡ joined nodes parent.0 ++ node.segment =
     joined-at nodes n node at (parent_before nodes plan.each n node at) ∙ ap (λ p. at_parent [] (grown with_segment [] nodes) p ++ node.segment) up in
     (above.0 ++ node.segment, step ∙ ap (λ bytes. bytes ++ node.segment) above.1 ∙ append_assoc (joined nodes top) above.0 node.segment)
+
+-- a node's stimulus is longer than that of another node above it
+pub begins_more : (nodes : List Node) (top n : ℕ) → IsPlan nodes → IsBelow nodes top n → (n ≡ top → ⊥) → length (joined nodes top) < length (joined nodes n)
+begins_more nodes top n plan (itself e) differ = absurd (differ e)
+begins_more nodes top n plan (under node parent at up below) differ =
+    let above = begins nodes top parent.0 plan below in
+    let step : joined nodes n ≡ joined nodes parent.0 ++ node.segment =
+    joined-at nodes n node at (parent_before nodes plan.each n node at) ∙ ap (λ p. at_parent [] (grown with_segment [] nodes) p ++ node.segment) up in
+    let after : IsNodeAfter (take n nodes) node = subst (λ o. IfSome o (IsNodeAfter (take n nodes))) at (plan.each n) in
+    let some : 0 < length node.segment = subst (λ p. IfSome p (λ _. 0 < length node.segment)) up after.some in
+    let longer = ap length step ∙ length-append (joined nodes parent.0) node.segment in
+    let front = ap length above.1 ∙ length-append (joined nodes top) above.0 in
+    omega (arith, some, longer, front)
 
 pub same_front : (a more : List ℕ) → take (length a) a ≡ take (length a) (a ++ more)
 same_front a more = sym (take-append-le (length a) a more (omega arith))

@@ -2,6 +2,7 @@
 //! parameter stands for the states of a machine, so each law is of every machine.
 
 ghost use Rattle.vf_machine.specs.Machine.{Machine};
+ghost use Rattle.vf_jobs.specs.Copies.{EndingIsCopied, PassingIsCopied};
 ghost use Rattle.vf_jobs.specs.Jobs.{FitsAbove};
 ghost use Rattle.vf_jobs.specs.Kinds.{HasOneKind, SharesItsSavePoint};
 ghost use Rattle.vf_jobs.specs.Limits.{ReachLimitsFall, TestsAreWithin};
@@ -43,4 +44,18 @@ pub fn fits_above()
 /// There is exactly one kind of a node.
 pub fn there_is_one_kind<S>()
     ensures { (m : Machine S) → HasOneKind m }
+{}
+
+/// Where the run that reaches a node ended before any read past the node's stimulus, every job of the
+/// node's subtree that the ending fits has the same outcome, and the nodes that such jobs reach have the
+/// same kind.
+pub fn endings_are_copied<S>()
+    ensures { (m : Machine S) → EndingIsCopied m }
+{}
+
+/// Where the run that reaches a node would pass the budget before any read past the node's stimulus, every
+/// job of the node's subtree that the passing fits has the same outcome, and the nodes that such jobs reach
+/// have the same kind.
+pub fn passings_are_copied<S>()
+    ensures { (m : Machine S) → PassingIsCopied m }
 {}
