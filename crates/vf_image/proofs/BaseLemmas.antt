@@ -1,7 +1,7 @@
 -- Images over a base.
-use Rattle.std.proofs.Common.{◌≡◌, ℕ, suc, zero, ◌+◌, ◌-◌, ◌/◌, ◌%◌, ◌<◌, ◌≤◌, ◌||◌, Bool, true, false, cond, if◌then◌else◌, List, Option, None, Some, length, slice_index, is_some, length-append, nat_eq, refl, sym, ap, ap₂, subst, ◌∙◌, arith, ⊎_elim}
+use Rattle.std.proofs.Common.{◌≡◌, ◌≢◌, ◌&&◌, nat_le, ℕ, suc, zero, ◌+◌, ◌-◌, ◌/◌, ◌%◌, ◌<◌, ◌≤◌, ◌||◌, Bool, true, false, cond, if◌then◌else◌, List, Option, None, Some, length, slice_index, is_some, length-append, nat_eq, refl, sym, ap, ap₂, subst, ◌∙◌, arith, ⊎_elim}
 use Rattle.std.specs.Cmp.Lexicographic.{pointwise}
-use Rattle.std.proofs.lemmas.Bool.{false≢true, cases_lt, eqb-true, eq-eqb}
+use Rattle.std.proofs.lemmas.Bool.{false≢true, cases_lt, eqb-true, eq-eqb, and_parts, leb-true, le-leb}
 use Rattle.std.proofs.lemmas.Bool.Decides.{Decides-eqb}
 use Rattle.std.proofs.lemmas.Slice.Eq.{slice_eq-Decides}
 use Rattle.vf_pages.proofs.CallerLemmas.{entry-page}
@@ -14,20 +14,22 @@ use Rattle.vf_machine.specs.Pages.{is_touched, page_differs}
 use Rattle.vf_machine.specs.Run.{Moment, words_at, moment_at, mark_at}
 use Rattle.vf_machine.specs.Solo.{turns_before_end}
 use Rattle.vf_machine.specs.Laws.{SameFor}
-use Rattle.vf_machine.proofs.CallerLemmas.{is_touched-suc, later, reads_grow, IsFirst, Finds, first_finds}
+use Rattle.vf_machine.proofs.CallerLemmas.{is_touched-suc, later, reads_grow, written_grows, counts_once, IsFirst, Finds, first_finds}
 use Rattle.vf_design.specs.Program.{word_count}
 use Rattle.vf_design.specs.Words.{machine_of}
-use Rattle.vf_plan.specs.Kinds.{save_of, save_at, all_read}
-use Rattle.vf_plan.specs.Setup.{Conditions}
-use Rattle.vf_plan.proofs.CallerLemmas.{begins, below, descends}
+use Rattle.vf_jobs.specs.Kinds.{save_of, save_at, all_read}
+use Rattle.vf_jobs.specs.Setup.{Conditions}
+use Rattle.vf_jobs.proofs.CallerLemmas.{begins, begins_more, below, descends}
 use Rattle.vf_pages.specs.Pages.{Page, Pages, entry, or_entry, word_or, word_of}
 use Rattle.vf_pages.specs.Bases.{left_of, is_in_base, has_words}
 use Rattle.vf_pages.specs.Calls.{KeptChanged}
-use Rattle.vf_design.specs.State.{IsSound}
-use Rattle.vf_plan.specs.Jobs.{node_of}
+use Rattle.vf_design.specs.State.{State, IsSound}
+use Rattle.vf_base.specs.declared.run.Header.{Header}
+use Rattle.vf_jobs.specs.Jobs.{node_of, fits}
 use Rattle.vf_image.specs.Runs.{stimulus_of, limits_for, moment_in, words_in, last_save, touches, IsRunAt, Stands}
 use Rattle.vf_image.specs.Simulators.{Simulator, IsSimulator}
-use Rattle.vf_image.specs.Images.{Checkpoint, IsImage, IsSavedAt, IsHeldBy, full, over, Serves, StandsOver}
+use Rattle.vf_image.specs.Images.{Checkpoint, IsImage, IsBase, IsHeldBy, full, over, Serves, StandsOver}
+use Rattle.vf_image.specs.Runs.{IsSavedAt}
 use Rattle.vf_image.proofs.ForkLemmas.{shared, touched_alike, read_at, full_stands}
 
 -- ---- a touched page stays touched
@@ -179,6 +181,71 @@ base_touches b node t kept serves saved page on =
     touched_later b.setup (Reach node) page b.header.turns t order
     (sym (touched_alike m a (stimulus_of b.setup (Reach node)) la (limits_for b.setup (Reach node)) b.header.turns same page b.header.turns (omega arith)) ∙ on)
 
+-- ---- what a base is
+
+fits-less : (less more : Header) (limits : Limits) → less.turns ≤ more.turns → less.written ≤ more.written → fits limits more ≡ true → fits limits less ≡ true
+fits-less less more limits turns written h =
+    let two = and_parts (nat_le more.turns limits.turns) (nat_le more.written limits.output) h in
+    let high = leb-true more.turns limits.turns two.0 in
+    let wide = leb-true more.written limits.output two.1 in
+    ap₂ ◌&&◌ (le-leb less.turns limits.turns (omega (arith, high, turns))) (le-leb less.written limits.output (omega (arith, wide, written)))
+
+is_base : (b : Checkpoint) (node : NodeNo) (t : ℕ) → IsImage b → Serves b (Reach node) → b.node.0 ≢ node.0 → IsSavedAt b.setup node t → IsBase b.setup node b.node b.header.turns t
+is_base b node t kept serves proper saved = record { above = serves.below; proper = proper; saved = kept.at_save; earlier = before; serves = λ limits h. fits-less (moment_in b.setup (Reach b.node) b.header.turns).header (moment_in b.setup (Reach node) t).header limits turns written h }
+  where
+    order : b.header.turns ≤ t
+    order =
+        let more = begins b.setup.plan b.node.0 node.0 kept.setup.plan (below b.setup.plan b.node.0 (descends b.setup.plan kept.setup.plan) node.0 serves.below) in
+        let long = ap length more.1 ∙ length-append (stimulus_of b.setup (Reach b.node)) more.0 in
+        let base = first_save b.setup b.node b.header.turns kept.at_save in
+        let own = first_save b.setup node t saved in
+        comes_first (machine_of b.setup.design) (stimulus_of b.setup (Reach b.node)) (stimulus_of b.setup (Reach node)) (limits_for b.setup (Reach b.node)) (limits_for b.setup (Reach node))
+        b.header.turns t (omega (arith, long)) (shared b (Reach node) kept serves) base.least
+        (read_at (machine_of b.setup.design) (stimulus_of b.setup (Reach b.node)) (limits_for b.setup (Reach b.node)) b.header.turns base.passes) own.passes
+
+    same : moment_in b.setup (Reach b.node) b.header.turns ≡ moment_in b.setup (Reach node) b.header.turns
+    same = (shared b (Reach node) kept serves b.header.turns (omega arith)).moment
+
+    before : b.header.turns < t
+    before = ⊎_elim (λ lt. lt)
+        (λ ge.
+        let first = order in
+        let here : b.header.turns ≡ t = omega (arith, ge, first) in
+        let base = first_save b.setup b.node b.header.turns kept.at_save in
+        let own = first_save b.setup node t saved in
+        let read = eqb-true (moment_in b.setup (Reach b.node) b.header.turns).header.reads (length (stimulus_of b.setup (Reach b.node)))
+        (read_at (machine_of b.setup.design) (stimulus_of b.setup (Reach b.node)) (limits_for b.setup (Reach b.node)) b.header.turns base.passes) in
+        let all = eqb-true (moment_in b.setup (Reach node) t).header.reads (length (stimulus_of b.setup (Reach node)))
+        (read_at (machine_of b.setup.design) (stimulus_of b.setup (Reach node)) (limits_for b.setup (Reach node)) t own.passes) in
+        let moment = ap (λ (now : Moment State). now.header.reads) same in
+        let turn = ap (λ k. (moment_in b.setup (Reach node) k).header.reads) here in
+        let longer = begins_more b.setup.plan b.node.0 node.0 kept.setup.plan (below b.setup.plan b.node.0 (descends b.setup.plan kept.setup.plan) node.0 serves.below) (λ e. proper (sym e)) in
+        absurd (omega (arith, read, all, moment, turn, longer)))
+        (cases_lt b.header.turns t)
+
+    whole : b.header.turns + (t - b.header.turns) ≡ t
+    whole = let first = order in omega (arith, first)
+
+    turns : (moment_in b.setup (Reach b.node) b.header.turns).header.turns ≤ (moment_in b.setup (Reach node) t).header.turns
+    turns =
+        let m = machine_of b.setup.design in
+        let stim = stimulus_of b.setup (Reach node) in
+        let limits = limits_for b.setup (Reach node) in
+        let grown = later (λ (now : Moment State). now.header.turns) m stim limits (λ now. (counts_once m stim limits now).0) b.header.turns (t - b.header.turns) in
+        let end = ap (λ k. (moment_in b.setup (Reach node) k).header.turns) whole in
+        let moment = ap (λ (now : Moment State). now.header.turns) same in
+        omega (arith, grown, end, moment)
+
+    written : (moment_in b.setup (Reach b.node) b.header.turns).header.written ≤ (moment_in b.setup (Reach node) t).header.written
+    written =
+        let m = machine_of b.setup.design in
+        let stim = stimulus_of b.setup (Reach node) in
+        let limits = limits_for b.setup (Reach node) in
+        let grown = later (λ (now : Moment State). now.header.written) m stim limits (λ now. written_grows m stim limits now) b.header.turns (t - b.header.turns) in
+        let end = ap (λ k. (moment_in b.setup (Reach node) k).header.written) whole in
+        let moment = ap (λ (now : Moment State). now.header.written) same in
+        omega (arith, grown, end, moment)
+
 -- a simulator at its save point, in the pages that a full image has not
 pub stands_over : (b : Checkpoint) (node : NodeNo) (t : ℕ) (pages own : Pages) → IsImage b → b.base ≡ None → Serves b (Reach node) → IsSavedAt b.setup node t → Stands b.setup (Reach node) t pages
     → ((p : ℕ) → entry p own.pages ≡ left_of b.pages.pages (entry p pages.pages)) → own.zero ≡ pages.zero → StandsOver b.setup node b.node b.header.turns t own
@@ -212,12 +279,12 @@ over_stands i b pages kept base_kept none setup is zero_is entries = by kept.hel
     by (full e stands) = let wrong = sym e ∙ is in absurd cc
     by (over node since e saved o) = over_it (over_is node since e saved o)
       where
-        over_is : (node : NodeNo) (since : ℕ) → i.base ≡ Some node → IsSavedAt i.setup node since → StandsOver i.setup i.node node since i.header.turns i.pages
+        over_is : (node : NodeNo) (since : ℕ) → i.base ≡ Some node → IsBase i.setup i.node node since i.header.turns → StandsOver i.setup i.node node since i.header.turns i.pages
             → StandsOver i.setup i.node b.node b.header.turns i.header.turns i.pages
         over_is node since e saved o =
             let same : Some b.node ≡ Some node = sym is ∙ e in
             let same_node : b.node ≡ node = ap (node_or b.node) same in
-            let at : Some since ≡ Some b.header.turns = sym saved ∙ subst (λ n. IsSavedAt i.setup n b.header.turns) same_node (subst (λ c. IsSavedAt c b.node b.header.turns) setup base_kept.at_save) in
+            let at : Some since ≡ Some b.header.turns = sym saved.saved ∙ subst (λ n. IsSavedAt i.setup n b.header.turns) same_node (subst (λ c. IsSavedAt c b.node b.header.turns) setup base_kept.at_save) in
             let same_turn : since ≡ b.header.turns = ap (turn_or since) at in
             subst (λ n. StandsOver i.setup i.node n b.header.turns i.header.turns i.pages) (sym same_node)
             (subst (λ n. StandsOver i.setup i.node node n i.header.turns i.pages) same_turn o)
@@ -243,9 +310,9 @@ over_stands i b pages kept base_kept none setup is zero_is entries = by kept.hel
 
 -- the pages that its base has not, of a simulator at its save point
 kept_changes : (s : Simulator) (b : Checkpoint) (node : NodeNo) (pages : Pages) → IsSimulator s → s.job ≡ Reach node → node.0 ≡ node_of s.job → IsSavedAt s.setup node s.header.turns → IsImage b → b.base ≡ None
-    → b.setup ≡ s.setup → Serves b s.job → KeptChanged b.pages s.pages pages
+    → b.setup ≡ s.setup → Serves b s.job → b.node.0 ≢ node_of s.job → KeptChanged b.pages s.pages pages
     → IsImage (record { setup = s.setup; node = node; base = Some b.node; header = s.header; text = s.text; saved = s.saved; pages = pages })
-kept_changes s b node pages sim reach is saved kept none setup serves changed =
+kept_changes s b node pages sim reach is saved kept none setup serves proper changed =
     let serves_node : Serves b (Reach node) = subst (Serves b) reach serves in
     let at_save : IsSavedAt b.setup node s.header.turns = subst (λ c. IsSavedAt c node s.header.turns) (sym setup) saved in
     let stands : Stands b.setup (Reach node) s.header.turns s.pages =
@@ -258,12 +325,12 @@ kept_changes s b node pages sim reach is saved kept none setup serves changed =
       saved = sim.saved ∙ ap (λ job. last_save s.setup job s.header.turns) reach;
       sound = subst (λ job. IsSound s.setup.design (moment_in s.setup job s.header.turns).state) reach sim.sound;
       run = subst (λ job. IsRunAt s.setup job s.header.turns s.header s.text) reach sim.at.run;
-      held = over b.node b.header.turns refl (subst (λ c. IsSavedAt c b.node b.header.turns) setup kept.at_save)
+      held = over b.node b.header.turns refl (subst (λ c. IsBase c node b.node b.header.turns s.header.turns) setup (is_base b node s.header.turns kept serves_node (λ e. proper (e ∙ is)) at_save))
           (subst (λ c. StandsOver c node b.node b.header.turns s.header.turns pages) setup over_base);
     }
 
 pub incr_image : (s : Simulator) (b i : Checkpoint) → IsSimulator s → s.job ≡ Reach (record { 0 = node_of s.job }) → IsSavedAt s.setup (record { 0 = node_of s.job }) s.header.turns → IsImage b → b.base ≡ None
-    → b.setup ≡ s.setup → Serves b s.job → KeptChanged b.pages s.pages i.pages → i.setup ≡ s.setup → i.node.0 ≡ node_of s.job → i.base ≡ Some b.node → i.header ≡ s.header → i.text ≡ s.text → i.saved ≡ s.saved → IsImage i
-incr_image s b i sim reach at_save kept none same_setup serves changed setup node base header text saved =
+    → b.setup ≡ s.setup → Serves b s.job → b.node.0 ≢ node_of s.job → KeptChanged b.pages s.pages i.pages → i.setup ≡ s.setup → i.node.0 ≡ node_of s.job → i.base ≡ Some b.node → i.header ≡ s.header → i.text ≡ s.text → i.saved ≡ s.saved → IsImage i
+incr_image s b i sim reach at_save kept none same_setup serves proper changed setup node base header text saved =
     subst IsImage (λ t. record { setup = sym setup t; node = record { 0 = sym node t }; base = sym base t; header = sym header t; text = sym text t; saved = sym saved t; pages = i.pages })
-    (kept_changes s b (record { 0 = node_of s.job }) i.pages sim reach refl at_save kept none same_setup serves changed)
+    (kept_changes s b (record { 0 = node_of s.job }) i.pages sim reach refl at_save kept none same_setup serves proper changed)

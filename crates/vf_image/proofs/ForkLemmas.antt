@@ -15,10 +15,10 @@ use Rattle.vf_machine.proofs.CallerLemmas.{is_touched-zero, is_touched-suc, unli
 use Rattle.vf_machine.specs.Solo.{turns_before_end}
 use Rattle.vf_design.specs.State.{State, IsSound}
 use Rattle.vf_design.specs.Words.{machine_of, words_of}
-use Rattle.vf_plan.specs.Jobs.{node_of, fits}
-use Rattle.vf_plan.specs.Kinds.{save_of, save_at, all_read, is_passed}
-use Rattle.vf_plan.proofs.CallerLemmas.{begins, below, descends, shares_save_point}
-use Rattle.vf_plan.specs.Setup.{Conditions, IsSetup}
+use Rattle.vf_jobs.specs.Jobs.{node_of, fits}
+use Rattle.vf_jobs.specs.Kinds.{save_of, save_at, all_read, is_passed}
+use Rattle.vf_jobs.proofs.CallerLemmas.{begins, below, descends, shares_save_point}
+use Rattle.vf_jobs.specs.Setup.{Conditions, IsSetup}
 use Rattle.vf_pages.specs.Pages.{Pages, entry, word_at}
 use Rattle.vf_image.specs.Simulators.{Simulator, IsSimulator}
 use Rattle.vf_image.specs.Runs.{stimulus_of, limits_for, moment_in, last_save, GoesPast, IsRunAt, Stands, IsAt}

@@ -3,10 +3,11 @@ use Rattle.std.proofs.Common.{◌≡◌, ℕ, ◌<◌, ◌∙◌, length, None, 
 use Rattle.vf_base.specs.declared.names.Job.TheVariants.{Reach}
 use Rattle.vf_base.specs.declared.names.NodeNo.{NodeNo}
 use Rattle.vf_design.specs.State.{IsSound}
-use Rattle.vf_plan.specs.Jobs.{node_of}
+use Rattle.vf_jobs.specs.Jobs.{node_of}
 use Rattle.vf_image.specs.Runs.{last_save, moment_in, IsRunAt, Stands}
 use Rattle.vf_image.specs.Simulators.{Simulator, IsSimulator}
-use Rattle.vf_image.specs.Images.{Checkpoint, IsImage, IsSavedAt, full}
+use Rattle.vf_image.specs.Images.{Checkpoint, IsImage, full}
+use Rattle.vf_image.specs.Runs.{IsSavedAt}
 
 pub node_is : (node : NodeNo) (n : ℕ) → node.0 ≡ n → node ≡ record { 0 = n }
 node_is node n e = λ i. record { 0 = e i }

@@ -3,4 +3,5 @@ pub mod StepLemmas
 pub mod ImageLemmas
 pub mod ForkLemmas
 pub mod BaseLemmas
+pub mod CountLemmas
 pub mod CallerLemmas

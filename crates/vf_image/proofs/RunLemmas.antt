@@ -6,7 +6,7 @@ use Rattle.vf_design.specs.State.{State, IsSound}
 use Rattle.vf_machine.proofs.CallerLemmas.{moment_at-zero, text_at-zero, is_touched-zero}
 use Rattle.vf_design.specs.Words.{machine_of, words_of}
 use Rattle.vf_design.proofs.CallerLemmas.{length-words_of, start_sound}
-use Rattle.vf_plan.specs.Setup.{Conditions, IsSetup}
+use Rattle.vf_jobs.specs.Setup.{Conditions, IsSetup}
 use Rattle.vf_pages.specs.Pages.{Pages, entry, word_of, word_or}
 use Rattle.vf_image.specs.Runs.{stimulus_of, limits_for, moment_in, Stands, IsAt}
 use Rattle.vf_image.specs.Simulators.{Simulator, IsSimulator, contents}
@@ -41,5 +41,5 @@ sound_at_zero c job kept =
 -- the word at an address of a simulator's pages is that of its state
 pub word_is : (s : Simulator) (at : ℕ) → IsSimulator s → at < length (contents s) → word_of s.pages at ≡ slice_index (contents s) at
 word_is s at sim below =
-    let long = length-words_of s.setup.design (moment_in s.setup s.job s.header.turns).state in
+    let long = length-words_of s.setup.design (moment_in s.setup s.job s.header.turns).state sim.sound in
     sim.at.stands.words at (omega (arith, below, long))

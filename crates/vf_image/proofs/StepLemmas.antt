@@ -4,6 +4,7 @@ use Rattle.std.proofs.lemmas.Bool.{cases_lt, cases_eq, eq-eqb, ne_eqb, and_parts
 use Rattle.std.proofs.lemmas.List.{get_or-set_same, get_or-set_other, length-set}
 use Rattle.std.proofs.Math.Bool.{or_comm}
 use Rattle.vf_base.specs.declared.run.Header.{Header}
+use Rattle.vf_base.specs.declared.write.Write.{Write}
 use Rattle.vf_machine.specs.Run.{Moment, Turned, is_ending}
 use Rattle.vf_machine.specs.Writes.{IsChange, AllChange, writes_page}
 use Rattle.vf_machine.specs.Writes as machine
@@ -11,10 +12,10 @@ use Rattle.vf_machine.proofs.CallerLemmas.{moment_at-suc, text_at-suc, turn-coun
 use Rattle.vf_design.specs.declared.turn.Turn.{Turn}
 use Rattle.vf_design.specs.State.{State, IsSound}
 use Rattle.vf_design.specs.Step.{start}
-use Rattle.vf_design.proofs.CallerLemmas.{length-words_of}
+use Rattle.vf_design.proofs.CallerLemmas.{length-words_of, start_sound}
 use Rattle.vf_frames.specs.Numbers.{rises}
 use Rattle.vf_design.specs.Words.{machine_of, words_of}
-use Rattle.vf_plan.specs.Kinds.{save_of}
+use Rattle.vf_jobs.specs.Kinds.{save_of}
 use Rattle.vf_pages.specs.Pages.{Pages, entry}
 use Rattle.vf_pages.specs.Writes.{written, touches, address, AreWrites}
 use Rattle.vf_pages.specs.Calls.{Wrote}
@@ -31,20 +32,20 @@ word_set words a at value within =
     (cases_eq a at)
 
 -- the two ways to write words
-words_written : (before words : List ℕ) (writes : List (ℕ × ℕ)) (a : ℕ) → AllChange before writes → length words ≡ length before
+words_written : (before words : List ℕ) (writes : List Write) (a : ℕ) → AllChange before writes → length words ≡ length before
     → written writes a (slice_index words a) ≡ slice_index (machine.written words writes) a
 words_written before words [] a all long = refl
 words_written before words (write ∷ more) a all long =
-    ap (written more a) (word_set words a write.0 write.1 (omega (arith, all.0, long)))
-    ∙ words_written before (slice_set words write.0 write.1) more a all.2 (length-set words write.0 write.1 ∙ long)
+    ap (written more a) (word_set words a write.at write.word (omega (arith, all.0, long)))
+    ∙ words_written before (slice_set words write.at write.word) more a all.2 (length-set words write.at write.word ∙ long)
 
 same_test : (a b : ℕ) → (a == b) ≡ (b == a)
 same_test a b =
     ⊎_elim (λ same. eq-eqb a b same ∙ sym (eq-eqb b a (sym same))) (λ differ. ne_eqb a b differ ∙ sym (ne_eqb b a (λ same. differ (sym same)))) (cases_eq a b)
 
-pages_written : (page : ℕ) (writes : List (ℕ × ℕ)) → touches page writes ≡ writes_page writes page
+pub pages_written : (page : ℕ) (writes : List Write) → touches page writes ≡ writes_page writes page
 pages_written page [] = refl
-pages_written page (write ∷ more) = ap₂ ◌||◌ (same_test page (write.0 / 64)) (pages_written page more)
+pages_written page (write ∷ more) = ap₂ ◌||◌ (same_test page (write.at / 64)) (pages_written page more)
 
 -- a turn that goes on counts as one
 pub turn_counts : (s : Simulator) (turn : Turn) → IsSimulator s → IsNext s turn → is_ending turn.mark ≡ false → turn.header.turns ≡ s.header.turns + 1
@@ -125,20 +126,20 @@ module _ (s : Simulator) (turn : Turn) (pages : Pages) (sim : IsSimulator s) (ne
   saves_next = ap save_of next.mark ∙ ap (last_save s.setup s.job) (sym counted)
 
 -- rising writes inside the words
-rising : (words : List ℕ) (writes : List (ℕ × ℕ)) (from limit : ℕ) → machine.rises_from from writes ≡ true → AllChange words writes → length words ≡ limit
+rising : (words : List ℕ) (writes : List Write) (from limit : ℕ) → machine.rises_from from writes ≡ true → AllChange words writes → length words ≡ limit
     → rises from limit (map address writes) ≡ true
 rising words [] from limit r all long = refl
 rising words (write ∷ more) from limit r all long =
-    let parts = and_parts (nat_le from write.0) (machine.rises_from (suc write.0) more) r in
-    let later = rising words more (suc write.0) limit parts.1 all.2 long in
-    and_from (nat_le from write.0) (nat_lt write.0 limit && rises (write.0 + 1) limit (map address more)) parts.0
-    (and_from (nat_lt write.0 limit) (rises (write.0 + 1) limit (map address more)) (lt-ltb write.0 limit (omega (arith, all.0, long)))
-    (ap (λ n. rises n limit (map address more)) (let e : write.0 + 1 ≡ suc write.0 = omega arith in e) ∙ later))
+    let parts = and_parts (nat_le from write.at) (machine.rises_from (suc write.at) more) r in
+    let later = rising words more (suc write.at) limit parts.1 all.2 long in
+    and_from (nat_le from write.at) (nat_lt write.at limit && rises (write.at + 1) limit (map address more)) parts.0
+    (and_from (nat_lt write.at limit) (rises (write.at + 1) limit (map address more)) (lt-ltb write.at limit (omega (arith, all.0, long)))
+    (ap (λ n. rises n limit (map address more)) (let e : write.at + 1 ≡ suc write.at = omega arith in e) ∙ later))
 
 -- the kernel's writes are writes to the simulator's pages
 pub next_writes : (s : Simulator) (turn : Turn) → IsSimulator s → IsNext s turn → AreWrites (length s.pages.zero) turn.writes.items
 next_writes s turn sim next =
-    let long = length-words_of s.setup.design (moment_in s.setup s.job s.header.turns).state in
-    let first = length-words_of s.setup.design start in
+    let long = length-words_of s.setup.design (moment_in s.setup s.job s.header.turns).state sim.sound in
+    let first = length-words_of s.setup.design start (start_sound s.setup.design sim.setup.formed) in
     let zero : length s.pages.zero ≡ length (words_of s.setup.design start) = ap length (sim.at.stands.zero ∙ sim.setup.zero) in
     rising (words_in s.setup s.job s.header.turns) turn.writes.items 0 (length s.pages.zero) next.writes.rises next.writes.change (omega (arith, long, first, zero))

@@ -3,7 +3,7 @@ use Rattle.std.specs.Prelude.{◌≡◌, Bool, true, false, ◌++◌}
 use Rattle.vf_design.specs.declared.turn.Turn.{Turn}
 use Rattle.vf_pages.specs.declared.refusal.PageRefusal.{PageRefusal}
 use Rattle.vf_pages.specs.declared.refusal.PageRefusal.TheVariants.{Short, Memory}
-use Rattle.vf_plan.specs.Kinds.{save_of}
+use Rattle.vf_jobs.specs.Kinds.{save_of}
 use Rattle.vf_pages.specs.Calls.{Wrote}
 use Rattle.vf_image.specs.Simulators.{Simulator}
 

@@ -1,21 +1,20 @@
 -- What contracts see of an image: a checkpoint that is held (docs/FARM.md, "Simulators and images").
-use Rattle.std.specs.Prelude.{◌≡◌, ℕ, ◌<◌, ◌/◌, ◌%◌, ◌||◌, true, List, [], ◌∷◌, length, slice_index, Option, Some, None, is_some}
+use Rattle.std.specs.Prelude.{◌≡◌, ◌≢◌, ℕ, ◌<◌, ◌/◌, ◌%◌, ◌||◌, true, List, [], ◌∷◌, length, slice_index, Option, Some, None, is_some}
 use Rattle.vf_base.specs.declared.names.Job.{Job}
 use Rattle.vf_base.specs.declared.names.Job.TheVariants.{Reach}
 use Rattle.vf_base.specs.declared.names.NodeNo.{NodeNo}
 use Rattle.vf_base.specs.declared.run.Header.{Header}
+use Rattle.vf_base.specs.declared.run.Limits.{Limits}
 use Rattle.vf_base.specs.declared.run.SaveKind.{SaveKind}
 use Rattle.vf_design.specs.Program.{word_count}
 use Rattle.vf_design.specs.State.{IsSound}
-use Rattle.vf_design.specs.Words.{machine_of}
-use Rattle.vf_plan.specs.Jobs.{node_of, fits}
-use Rattle.vf_plan.specs.Kinds.{savepoint_of_node}
-use Rattle.vf_plan.specs.Subtree.{is_below}
-use Rattle.vf_plan.specs.Setup.{Conditions, IsSetup}
+use Rattle.vf_jobs.specs.Jobs.{node_of, fits}
+use Rattle.vf_jobs.specs.Subtree.{is_below}
+use Rattle.vf_jobs.specs.Setup.{Conditions, IsSetup}
 use Rattle.vf_frames.specs.declared.holder.Holder.{Holder}
 use Rattle.vf_pages.specs.Pages.{Page, Pages, entry}
 use Rattle.vf_pages.specs.Calls.{Forked, ForkedOver}
-use Rattle.vf_image.specs.Runs.{limits_for, moment_in, last_save, words_in, touches, IsRunAt, Stands}
+use Rattle.vf_image.specs.Runs.{IsSavedAt, limits_for, moment_in, last_save, words_in, touches, IsRunAt, Stands}
 
 pub record Checkpoint : Type 0 where
   pub setup : Conditions
@@ -29,10 +28,6 @@ pub record Checkpoint : Type 0 where
   -- the image's own pages
   pub pages : Pages
 
--- turn t of the run that reaches the node is its save point
-abbrev pub IsSavedAt : Conditions → NodeNo → ℕ → Type 0
-IsSavedAt c node t = savepoint_of_node (machine_of c.design) c.limits c.plan node ≡ Some t
-
 -- Pages over those of a base, whose save point is turn `since` of its own run: each own page has the words of turn t, and every other
 -- page has the same words in both.
 pub record StandsOver (c : Conditions) (node base : NodeNo) (since t : ℕ) (pages : Pages) : Type 0 where
@@ -43,10 +38,18 @@ pub record StandsOver (c : Conditions) (node base : NodeNo) (since t : ℕ) (pag
       → slice_index (words_in c (Reach base) since) at ≡ slice_index (words_in c (Reach node) t) at
   pub touched : (page : ℕ) → (is_some (entry page pages.pages) || touches c (Reach base) since page) ≡ touches c (Reach node) t page
 
+-- A base is the save point of a node above, at an earlier turn, and fits whatever limits the later save point fits.
+pub record IsBase (c : Conditions) (node base : NodeNo) (since t : ℕ) : Type 0 where
+  pub above : is_below c.plan base.0 node.0 ≡ true
+  pub proper : base.0 ≢ node.0
+  pub saved : IsSavedAt c base since
+  pub earlier : since < t
+  pub serves : (limits : Limits) → fits limits (moment_in c (Reach node) t).header ≡ true → fits limits (moment_in c (Reach base) since).header ≡ true
+
 -- the words at the save point, by themselves, or over those of a base, which are at the save point of its own node
 pub data IsHeldBy (i : Checkpoint) : Type 0 where
   full : i.base ≡ None → Stands i.setup (Reach i.node) i.header.turns i.pages → IsHeldBy i
-  over : (base : NodeNo) (since : ℕ) → i.base ≡ Some base → IsSavedAt i.setup base since
+  over : (base : NodeNo) (since : ℕ) → i.base ≡ Some base → IsBase i.setup i.node base since i.header.turns
       → StandsOver i.setup i.node base since i.header.turns i.pages → IsHeldBy i
 
 -- an image is the save point of its node: words, header and all bytes written

@@ -1,4 +1,5 @@
 pub mod Runs
 pub mod Simulators
+pub mod Standing
 pub mod Calls
 pub mod Images

@@ -1,20 +1,21 @@
 -- The solo run of a job, and what of it a simulator or an image has (docs/FARM.md, "Simulators and images").
-use Rattle.std.specs.Prelude.{◌≡◌, ℕ, zero, suc, ◌<◌, Bool, false, List, Option, None, slice_index, is_some}
+use Rattle.std.specs.Prelude.{◌≡◌, ℕ, zero, suc, ◌<◌, Bool, false, List, Option, Some, None, slice_index, is_some}
 use Rattle.vf_base.specs.declared.names.Job.{Job}
 use Rattle.vf_base.specs.declared.names.Job.TheVariants.{Reach, Finish}
+use Rattle.vf_base.specs.declared.names.NodeNo.{NodeNo}
 use Rattle.vf_base.specs.declared.run.Header.{Header}
 use Rattle.vf_base.specs.declared.run.Limits.{Limits}
 use Rattle.vf_base.specs.declared.run.SaveKind.{SaveKind}
 use Rattle.vf_machine.specs.Run.{Moment, Turned, moment_at, text_at, turn_at, mark_at, words_at, is_ending}
-use Rattle.vf_machine.specs.Pages.{is_touched}
+use Rattle.vf_machine.specs.Pages.{is_touched, pages_touched}
 use Rattle.vf_design.specs.Program.{word_count}
 use Rattle.vf_design.specs.State.{State}
 use Rattle.vf_design.specs.Words.{machine_of}
 use Rattle.vf_plan.specs.Paths.{joined}
-use Rattle.vf_plan.specs.Jobs.{node_of}
-use Rattle.vf_plan.specs.Kinds.{save_of, save_at, is_passed}
-use Rattle.vf_plan.specs.Limits.{limits_of}
-use Rattle.vf_plan.specs.Setup.{Conditions}
+use Rattle.vf_jobs.specs.Jobs.{node_of}
+use Rattle.vf_jobs.specs.Kinds.{save_of, save_at, is_passed, savepoint_of_node}
+use Rattle.vf_jobs.specs.Limits.{limits_of}
+use Rattle.vf_jobs.specs.Setup.{Conditions}
 use Rattle.vf_pages.specs.Pages.{Pages, entry, word_of}
 
 -- the stimulus and the limits of a job
@@ -44,10 +45,18 @@ GoesOn c job k = (j : ℕ) → j < k → is_ending (mark_at (machine_of c.design
 abbrev pub touches : Conditions → Job → ℕ → ℕ → Bool
 touches c job k page = is_touched (machine_of c.design) (stimulus_of c job) (limits_for c job) k page
 
+-- how many pages the first k turns touched
+abbrev pub touched_in : Conditions → Job → ℕ → ℕ
+touched_in c job k = pages_touched (machine_of c.design) (stimulus_of c job) (limits_for c job) k
+
 -- the checkpoint that the last of the first k turns asked for
 abbrev pub last_save : Conditions → Job → ℕ → Option SaveKind
 last_save c job zero = None
 last_save c job (suc k) = save_of (mark_at (machine_of c.design) (stimulus_of c job) (limits_for c job) k)
+
+-- turn t of the run that reaches the node is its save point
+abbrev pub IsSavedAt : Conditions → NodeNo → ℕ → Type 0
+IsSavedAt c node t = savepoint_of_node (machine_of c.design) c.limits c.plan node ≡ Some t
 
 -- after k turns it is not the save point of the run that reaches a node, nor the turn before it reads past the node's stimulus
 abbrev pub GoesPast : Conditions → Job → ℕ → Type 0

@@ -5,10 +5,10 @@ use Rattle.vf_base.specs.declared.run.Header.{Header}
 use Rattle.vf_base.specs.declared.run.SaveKind.{SaveKind}
 use Rattle.vf_design.specs.declared.turn.Turn.{Turn}
 use Rattle.vf_design.specs.State.{IsSound}
-use Rattle.vf_kernel.specs.Turn.{IsTurn}
+use Rattle.vf_design.specs.Turn.{IsTurn}
 use Rattle.vf_pages.specs.Pages.{Pages}
-use Rattle.vf_plan.specs.Jobs.{node_of}
-use Rattle.vf_plan.specs.Setup.{Conditions, IsSetup}
+use Rattle.vf_jobs.specs.Jobs.{node_of}
+use Rattle.vf_jobs.specs.Setup.{Conditions, IsSetup}
 use Rattle.vf_image.specs.Runs.{stimulus_of, last_save, moment_in, words_in, turn_in, IsAt}
 
 pub record Simulator : Type 0 where

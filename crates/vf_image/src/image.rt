@@ -1,18 +1,19 @@
-ghost use Rattle.std.specs.Prelude.{◌≡◌, ◌<◌, ◌≤◌, true, false, Some, None, [], ◌∷◌, length, IfOk, OnErr, MatchResult};
+ghost use Rattle.std.specs.Prelude.{◌≡◌, ◌≢◌, ◌<◌, ◌≤◌, true, false, Some, None, [], ◌∷◌, length, IfOk, OnErr, MatchResult};
 ghost use Rattle.std.specs.Arc.{arc_value};
 ghost use Rattle.vf_base.specs.declared.names.NodeNo.{NodeNo};
 ghost use Rattle.vf_base.specs.declared.names.Job.TheVariants.{Reach};
 ghost use Rattle.vf_frames.specs.Holders.{Keeps, SamePool};
-ghost use Rattle.vf_plan.specs.Jobs.{node_of};
-ghost use Rattle.vf_image.specs.Images.{IsSavedAt, Serves};
+ghost use Rattle.vf_jobs.specs.Jobs.{node_of};
+ghost use Rattle.vf_image.specs.Images.{Serves};
+ghost use Rattle.vf_image.specs.Runs.{IsSavedAt};
 
 use crate::sim::{Sim, node};
 use std::marker::Model;
 use std::sync::Arc;
-use vf_base::{Header, NodeNo, PageNo, SaveKind, Text};
+use vf_base::{Header, NodeNo, SaveKind, Text};
 use vf_frames::Frames;
-use vf_pages::Paged;
-use vf_plan::Setup;
+use vf_jobs::Setup;
+use vf_pages::{PageNo, Paged};
 
 /// The state at the save point of a node, kept for the runs below it: a checkpoint.
 #[derive(Drop)]
@@ -39,7 +40,7 @@ impl<F: Frames> Model for Image<F> {
 
 impl<F: Frames> Image<F> {
     ghost use Rattle.vf_pages.specs.Calls.{KeptChanged, GivenBack};
-    ghost use Rattle.vf_pages.specs.Pages.{IsPageAt};
+    ghost use Rattle.vf_pages.specs.Pages.{IsPageAt, IsSorted};
     ghost use Rattle.vf_image.specs.Images.{IsImage};
 
     /// Keeps the state of a simulator whose job reaches a node and that is at the node's save point. The
@@ -67,7 +68,7 @@ impl<F: Frames> Image<F> {
         }
     }
 
-    /// Keeps of the state of a simulator at its node's save point the pages that a full image above it
+    /// Keeps of the state of a simulator at its node's save point the pages that a full image of a node above
     /// does not have with the same words, and releases the others. It takes no memory.
     pub fn take_incr(pool: &mut F, sim: Sim<F>, base: &Image<F>) -> Image<F>
         requires name { sim.pages.holder.name ≡ F.name pool.old }
@@ -76,6 +77,7 @@ impl<F: Frames> Image<F> {
         requires full { base.now.base ≡ None }
         requires setup { base.now.setup ≡ sim.setup }
         requires serves { Serves base.now sim.job }
+        requires proper { base.now.node.0 ≢ node_of sim.job }
         ensures setup { result.setup ≡ sim.setup }
         ensures node { result.node.0 ≡ node_of sim.job }
         ensures base { result.base ≡ Some base.now.node }
@@ -137,7 +139,9 @@ impl<F: Frames> Image<F> {
 
     /// How many pages the image has of its own.
     pub fn own_pages(&self) -> u32
-        ensures { result ≡ length self.now.pages.pages }
+        ensures count { result ≡ length self.now.pages.pages }
+        ensures frames { length self.now.pages.holder.frames ≡ result }
+        ensures sorted { IsSorted self.now.pages.pages }
     {
         self.pages.pages()
     }

@@ -1,8 +1,8 @@
-ghost use Rattle.std.specs.Prelude.{◌≡◌, ℕ, ◌+◌, ◌<◌, ◌≤◌, ◌++◌, Bool, None, true, false, List, [], ◌∷◌, length, IfSome, IfOk, IfErr, OnOk, OnErr, MatchResult};
+ghost use Rattle.std.specs.Prelude.{◌≡◌, ℕ, suc, ◌+◌, ◌<◌, ◌≤◌, ◌++◌, Bool, None, true, false, List, [], ◌∷◌, length, IfSome, IfOk, IfErr, OnOk, OnErr, MatchResult};
 ghost use Rattle.std.specs.Option.{option_map};
 ghost use Rattle.std.specs.Arc.{arc_value};
-ghost use Rattle.vf_plan.specs.Jobs.{node_of};
-ghost use Rattle.vf_plan.specs.Kinds.{save_of};
+ghost use Rattle.vf_jobs.specs.Jobs.{node_of};
+ghost use Rattle.vf_jobs.specs.Kinds.{save_of};
 ghost use Rattle.vf_frames.specs.declared.holder.Holder.{Holder};
 ghost use Rattle.vf_frames.specs.Holders.{Accounts, Keeps, SamePool};
 ghost use Rattle.vf_frames.specs.Calls.{Opened};
@@ -13,11 +13,11 @@ use std::alloc::Global;
 use std::marker::Model;
 use std::sync::Arc;
 use vf_base::{Header, Job, Memory, NodeNo, SaveKind, Text};
-use vf_design::{Mark, Turn};
+use vf_design::{Mark, Turn, Words};
 use vf_frames::Frames;
-use vf_kernel::Words;
+use vf_jobs::Setup;
 use vf_pages::{PageRefusal, Paged};
-use vf_plan::{Setup, joined};
+use vf_plan::joined;
 
 /// A run of the design by a job, from time zero or an image on. At every moment it is turn
 /// `header.turns` of the solo run of its job: it has the words, the header and all bytes written of that
@@ -80,7 +80,7 @@ fn is_short(refusal: &PageRefusal) -> bool
 impl<F: Frames> Sim<F> {
     ghost use Rattle.vf_pages.specs.Calls.{Forked, ForkedOver, GivenBack, WroteAmong, IsShort, ShortAmong, OnRefusal, IsUnmade};
     ghost use Rattle.vf_machine.specs.Run.{is_ending};
-    ghost use Rattle.vf_image.specs.Runs.{stimulus_of, GoesPast};
+    ghost use Rattle.vf_image.specs.Runs.{stimulus_of, touched_in, GoesPast};
     ghost use Rattle.vf_image.specs.Simulators.{IsSimulator, IsNext};
     ghost use Rattle.vf_image.specs.Calls.{Advanced, Stayed};
     ghost use Rattle.vf_image.specs.Images.{Serves, IsBaseOf, HasBase, ForkedFrom, base_holders};
@@ -287,32 +287,36 @@ impl<F: Frames> Sim<F> {
         self.stimulus.as_slice()
     }
 
-    /// How many pages are held: those that the run has touched.
+    /// How many pages are held: just those that the run has touched.
     pub fn pages(&self) -> u32
         ensures count { result ≡ length self.now.pages.pages }
         ensures budget { result ≤ self.now.pages.holder.name.frames }
+        ensures touched { result ≡ touched_in self.now.setup self.now.job self.now.header.turns }
+        ensures frames { length self.now.pages.holder.frames ≡ result }
     {
         self.pages.pages()
     }
 
     /// Performs the turn that comes next, as the kernel gave it on this state; it is no ending. After a
-    /// refusal all is as before but the misses and notes. `Short` says how many pages there would be,
-    /// and leaves the simulator short until its next turn, or until `settle`.
-    pub fn advance(&mut self, pool: &mut F, turn: Turn) -> Result<(), PageRefusal>
+    /// refusal all is as before but the misses and notes. `Short` tells how many pages the run would have
+    /// touched with that turn, and leaves the simulator short until its next turn, or until `settle`.
+    pub fn advance(&mut self, pool: &mut F, turn: &Turn) -> Result<(), PageRefusal>
         requires name { self.old.pages.holder.name ≡ F.name pool.old }
-        requires next { IsNext self.old turn }
-        requires goes_on { is_ending turn.mark ≡ false }
+        requires next { IsNext self.old turn.now }
+        requires goes_on { is_ending turn.now.mark ≡ false }
         requires goes_past { GoesPast self.old.setup self.old.job self.old.header.turns }
-        ensures ok { OnOk result (Advanced turn self.old self.new) }
+        ensures ok { OnOk result (Advanced turn.now self.old self.new) }
         ensures ok_among { OnOk result ((others : List Holder)
-            → Accounts (F.numbers pool.old) (self.old.pages.holder ∷ others) → WroteAmong turn.writes.items self.old.pages self.new.pages others) }
+            → Accounts (F.numbers pool.old) (self.old.pages.holder ∷ others) → WroteAmong turn.now.writes.items self.old.pages self.new.pages others) }
         ensures err { OnErr result (Stayed self.old self.new) }
         ensures refused { IfErr result (λ refusal. OnRefusal refusal
-            (λ k. IsShort k turn.writes.items self.old.pages self.new.pages × (self.new.short ≡ true))
+            (λ k. IsShort k turn.now.writes.items self.old.pages self.new.pages × (self.new.short ≡ true))
             (IsUnmade self.old.pages self.new.pages × (self.new.short ≡ self.old.short))) }
+        ensures number { IfErr result (λ refusal. OnRefusal refusal
+            (λ k. k ≡ touched_in self.old.setup self.old.job (suc self.old.header.turns)) (Unit {0})) }
         ensures refused_among { IfErr result (λ refusal. (others : List Holder)
             → Accounts (F.numbers pool.old) (self.old.pages.holder ∷ others)
-            → OnRefusal refusal (λ k. ShortAmong k turn.writes.items self.old.pages others) (Unit {0})) }
+            → OnRefusal refusal (λ k. ShortAmong k turn.now.writes.items self.old.pages others) (Unit {0})) }
         ensures kept { Keeps (F.numbers pool.old) (self.old.pages.holder ∷ []) (F.numbers pool.new) (self.new.pages.holder ∷ []) }
         ensures pool { SamePool (F.name pool.old) (F.numbers pool.old) (F.name pool.new) (F.numbers pool.new) }
     {

@@ -112,6 +112,7 @@ impl<F: Frames> Paged<F> {
         ensures refused_among { IfErr result (λ refusal. (others : List Holder)
             → Accounts (F.numbers pool.old) (self.old.holder ∷ others)
             → OnRefusal refusal (λ k. ShortAmong k writes.now self.old others) (Unit {0})) }
+        ensures sorted { IsSorted self.old.pages }
         ensures held { IsHeld self.new.pages self.new.holder.frames }
         ensures kept { Keeps (F.numbers pool.old) (self.old.holder ∷ []) (F.numbers pool.new) (self.new.holder ∷ []) }
         ensures pool { SamePool (F.name pool.old) (F.numbers pool.old) (F.name pool.new) (F.numbers pool.new) }

@@ -1,5 +1,5 @@
 use Rattle.std.proofs.Common.{◌∙◌, refl, ap}
-use Rattle.vf_plan.specs.Jobs.{node_of}
+use Rattle.vf_jobs.specs.Jobs.{node_of}
 use Rattle.vf_image.proofs.ImageLemmas.{full_image}
 use Rattle.vf_image.proofs.image.Image.take_full.Goals as goal
 

@@ -1,8 +1,8 @@
 use Rattle.std.proofs.Common.{◌≡◌, ◌<◌, ◌∙◌, sym, ap, ap₂, subst, refl, [], length, ℕ, Vec, Global}
 use Rattle.std.specs.Arc.{arc_value}
-use Rattle.vf_plan.specs.Setup.{Conditions, IsSetup}
+use Rattle.vf_jobs.specs.Setup.{Conditions, IsSetup}
 use Rattle.vf_plan.specs.Paths.{joined}
-use Rattle.vf_plan.specs.Jobs.{node_of}
+use Rattle.vf_jobs.specs.Jobs.{node_of}
 use Rattle.vf_image.specs.Runs.{stimulus_of, IsAt}
 use Rattle.vf_image.proofs.RunLemmas.{at_time_zero, sound_at_zero}
 use Rattle.vf_image.proofs.sim.Sim.at_zero.Goals as goal

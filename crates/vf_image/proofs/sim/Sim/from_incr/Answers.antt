@@ -1,8 +1,8 @@
 use Rattle.std.proofs.Common.{◌≡◌, ◌<◌, ◌∙◌, Some, length, refl, sym, ap, ap₂, subst}
 use Rattle.std.specs.Arc.{arc_value}
-use Rattle.vf_plan.specs.Jobs.{node_of}
+use Rattle.vf_jobs.specs.Jobs.{node_of}
 use Rattle.vf_plan.specs.Paths.{joined}
-use Rattle.vf_plan.specs.Setup.{Conditions}
+use Rattle.vf_jobs.specs.Setup.{Conditions}
 use Rattle.vf_image.specs.Images.{Checkpoint, Serves}
 use Rattle.vf_image.proofs.ForkLemmas.{forked_simulator}
 use Rattle.vf_image.proofs.BaseLemmas.{over_stands}
