@@ -6,3 +6,5 @@
 mod limits;
 #[cfg(test)]
 mod plans;
+#[cfg(test)]
+mod runs;

@@ -7,10 +7,10 @@ pub enum Stop {
     AtSave(SaveKind),
     /// The run that reaches a node would read past the node's stimulus next.
     ReadPast,
-    /// The next turn ends the run.
-    Ended(Ending),
-    /// No frame was free for the next turn, with which there would be so many pages.
+    /// The next turn ends the run, with so many turns counted: the ending turn with them where it counts.
+    Ended { ending: Ending, turns: u64 },
+    /// No frame was free for the next turn, with which the run would have touched so many pages.
     Short(u32),
-    /// Memory was wanting.
+    /// Memory ran out.
     Memory,
 }

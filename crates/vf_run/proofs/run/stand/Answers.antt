@@ -1,20 +1,11 @@
-use Rattle.std.proofs.Common.{◌≡◌, ◌∙◌, length, sym, ap, subst}
-use Rattle.vf_base.specs.declared.names.Job.TheVariants.{Reach}
-use Rattle.vf_image.specs.Runs.{stimulus_of, last_save, IsAt}
-use Rattle.vf_image.specs.Simulators.{IsSimulator}
-use Rattle.vf_run.proofs.StopLemmas.{at_save}
+use Rattle.vf_run.proofs.StopLemmas.{turns_within, end_counted}
 use Rattle.vf_run.proofs.run.stand.Goals as goal
 
-pub returns-in-Some-clause-some : goal.returns-in-Some-clause-some
-returns-in-Some-clause-some g c = λ numbers first.
-    let s = c.args.sim.now in
-    let sim : IsSimulator s = c.in-Reach.ensures.kept in
-    let job : s.job ≡ Reach c.in-Reach.field-0 = sym c.in-Reach.ensures.job in
-    let saved = sym c.in-Some.ensures in
-    let whole = sym (ap (λ h. h.reads) c.header.ensures.header) ∙ c.if-header-stimulus.false ∙ ap length c.stimulus.ensures ∙ ap (λ j. length (stimulus_of s.setup j)) job in (
-      c.in-Reach.field-0,
-      job,
-      at_save s.setup c.in-Reach.field-0 s.header s.text s.pages c.in-Some.kind (subst (λ j. IsAt s.setup j s.header.turns s.header s.text s.pages) job sim.at)
-          (ap (λ j. last_save s.setup j s.header.turns) (sym job) ∙ sym sim.saved ∙ saved) whole,
-      saved,
-    )
+pub returns-then-reads_past-clause-within : goal.returns-then-reads_past-clause-within
+returns-then-reads_past-clause-within g c = turns_within c.args.sim.now c.reads_past.ensures.kept
+
+pub returns-in-Ended-clause-once : goal.returns-in-Ended-clause-once
+returns-in-Ended-clause-once g c = (end_counted c.args.sim.now c.args.next.now c.reads_past.ensures.kept c.requires.next).once
+
+pub returns-in-Ended-clause-within : goal.returns-in-Ended-clause-within
+returns-in-Ended-clause-within g c = (end_counted c.args.sim.now c.args.next.now c.reads_past.ensures.kept c.requires.next).within

@@ -1,4 +1,4 @@
-use Rattle.vf_run.proofs.tests.a_test_goes_on_from_images.Given as goal
+use Rattle.vf_farm_tests.proofs.runs.a_test_goes_on_from_images.Given as goal
 
 -- the ledger that the blank names
 abbrev pub ghosts-from_images : goal.ghosts-from_images
