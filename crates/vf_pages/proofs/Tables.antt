@@ -49,6 +49,10 @@ table-none places pages p table none =
 pub get_or-zeros : (n k : ℕ) → get_or {A = ℕ} (replicate n 0) k 0 ≡ 0
 get_or-zeros n k = ⊎_elim (λ h. get_or-replicate n k 0 0 h) (λ h. get_or_past (replicate n 0) k 0 (rw length-replicate h)) (cases_lt k n)
 
+pub no-items : {X : Type 0} (xs : List X) → length xs ≡ 0 → xs ≡ []
+no-items [] h = refl
+no-items (x ∷ xs) h = absurd (omega (arith, h))
+
 -- a table of no page
 pub table-empty : (places : List ℕ) → ((p : ℕ) → slice_index places p ≡ 0) → IsTable places []
 table-empty places none = record {

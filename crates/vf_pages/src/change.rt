@@ -22,6 +22,7 @@ use vf_base::{Memory, Write};
 use vf_frames::Frames;
 
 // The refusal that a lack makes.
+#[inline(never)]
 fn refusal_of(lack: Lack, held: &[Held], writes: &[Write], words: usize) -> PageRefusal
     requires sorted { IsSorted (pages_of held.now) }
     requires writes { AreWrites words writes.now }
@@ -57,6 +58,7 @@ fn spare_room(
 }
 
 // Takes the room for fresh pages, and to merge them through.
+#[inline(never)]
 fn make_room(
     held: &mut Vec<Held>,
     fresh: &Vec<Held>,
@@ -116,12 +118,16 @@ pub(crate) fn change<F: Frames>(
     ensures pool { SamePool (F.name pool.old) (F.numbers pool.old) (F.name pool.new) (F.numbers pool.new) }
 {
     let zero = zero.as_slice();
-    let before = held.len();
     let mut fresh = Vec::new(*held.allocator());
     if let Err(lack) = gather(zero, held, places, pool, token, writes, &mut fresh) {
         give_up(pool, token, fresh);
         return Err(refusal_of(lack, held, writes, zero.len()));
     }
+    if fresh.len() == 0 {
+        write_kept(held, places, &fresh, writes, zero.len());
+        return Ok(());
+    }
+    let before = held.len();
     let Ok(spare) = make_room(held, &fresh, writes, zero.len()) else {
         give_up(pool, token, fresh);
         return Err(PageRefusal::Memory);

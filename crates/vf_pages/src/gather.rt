@@ -186,6 +186,7 @@ pub(crate) fn gather<F: Frames>(
 }
 
 /// Releases the frames of fresh pages that are not to be.
+#[inline(never)]
 pub(crate) fn give_up<F: Frames>(pool: &mut F, token: &mut F::Token, mut fresh: Vec<Held>)
     requires name { (F.seen token.old).name ≡ F.name pool.old }
     requires owned { Covers (pages_of fresh.items) (F.seen token.old).frames }

@@ -76,6 +76,7 @@ fn put_pages<F: Frames>(
 
 /// Puts fresh pages in their places and releases the frames of those that they replace. There is room
 /// for all. Where `spare` has room for all pages too, they are merged through it.
+#[inline(never)]
 pub(crate) fn install<F: Frames>(
     pool: &mut F,
     token: &mut F::Token,

@@ -53,6 +53,7 @@ pub(crate) fn note_places(held: &Vec<Held>, places: &mut Vec<u32>)
 }
 
 /// Makes a table right again after pages may have been added, of which there were so many before.
+#[inline(never)]
 pub(crate) fn note_added(held: &Vec<Held>, places: &mut Vec<u32>, before: usize)
     requires sorted { IsSorted (pages_of held.now.items) }
     requires fits { (p : ℕ) → has p (pages_in (pages_of held.now.items)) ≡ true → p < length places.old.items }
