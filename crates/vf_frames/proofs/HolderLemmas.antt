@@ -79,7 +79,7 @@ keeps-reordered a b xs xs' ys ys' p q k = λ others c.
     accounts-reordered b (ys ++ others) (ys' ++ others) (reordered-before ys ys' others q)
     (k others (accounts-reordered a (xs' ++ others) (xs ++ others) (reordered-before xs' xs others p) c))
 
--- and with others before and behind them
+-- and with others before and after them
 pub keeps-among : (a b : Option (List ℕ)) (xs ys front back : List Holder) → Keeps a xs b ys → Accounts a (front ++ (xs ++ back)) → Accounts b (front ++ (ys ++ back))
 keeps-among a b xs ys front back k c =
     accounts-reordered b (ys ++ (front ++ back)) (front ++ (ys ++ back)) (reordered-sides [] ys front back)

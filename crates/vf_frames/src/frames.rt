@@ -28,7 +28,7 @@ pub trait Frames {
     ghost numbers: { Self → Option (List ℕ) };
 
     /// A new holder with no frame and with so many of the parts of `from`, which keeps the others.
-    /// After want of memory all is as it was.
+    /// Where it is out of memory all is as it was.
     fn open(&mut self, from: &mut Self::Token, parts: u64) -> Result<Self::Token, Memory>
         requires name { (seen from.old).name ≡ name self.old }
         requires some { 1 ≤ parts }

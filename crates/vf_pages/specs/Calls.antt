@@ -51,7 +51,7 @@ abbrev pub OnRefusal : PageRefusal → (ℕ → Type 0) → Type 0 → Type 0
 OnRefusal (Short k) P Q = P k
 OnRefusal Memory P Q = Q
 
--- memory was wanting: notes may have grown
+-- it was out of memory: notes may have grown
 pub record IsUnmade (old new : Pages) : Type 0 where
   pub rest : SameRest old.holder new.holder
   pub notes : NotesGrow (λ _. Unit {0}) old.holder.notes new.holder.notes

@@ -73,7 +73,7 @@ pub record Short (pages : List Page) (writes : List Write) (a0 : Option (List �
   pub notes : NotesGrow (ShortNotes before.name.frames (length (written_pages writes))) before.notes now.notes
   pub lacking : (others : List Holder) → Accounts a0 (before ∷ others) → free_frames before.name.frames (before ∷ others) < need others pages (written_pages writes)
 
--- memory was wanting: what was gathered is to be given back
+-- it was out of memory: what was gathered is to be given back
 pub record Unmade (pages : List Page) (a0 : Option (List ℕ)) (before : Holder) (a : Option (List ℕ)) (now : Holder) (fresh : List Page) : Type 0 where
   pub owns : Owns pages fresh now.frames
   pub rest : SameRest before now
@@ -85,7 +85,7 @@ abbrev pub Goes : List ℕ → List Page → ℕ → List Write → Option (List
 Goes zero pages p own a now fresh a' now' fresh' =
     (done : List Write) (a0 : Option (List ℕ)) (before : Holder) → AllBefore done p → Gathered zero pages done a0 before a now fresh → Gathered zero pages (done ++ own) a0 before a' now' fresh'
 
--- or they end it, for want of a frame or of memory
+-- or they end it, where there is no frame or no memory
 abbrev pub Ends : List ℕ → List Page → ℕ → List Write → Option (List ℕ) → Holder → List Page → Option (List ℕ) → Holder → List Page → Lack → Type 0
 Ends zero pages p own a now fresh a' now' fresh' lack =
     (done : List Write) (a0 : Option (List ℕ)) (before : Holder) → AllBefore done p → Gathered zero pages done a0 before a now fresh → OnLack lack (Short pages (done ++ own) a0 before a' now' fresh') (Unmade pages a0 before a' now' fresh')

@@ -41,7 +41,7 @@ fn take_page(held: &mut Vec<Held>, page: u32, behind: &mut Vec<Held>) -> Option<
     None
 }
 
-// Puts the pages of another list, the last first, behind those of a list that has room for them.
+// Puts the pages of another list, the last first, after those of a list that has room for them.
 fn append_reversed(held: &mut Vec<Held>, mut behind: Vec<Held>)
     requires { vec_len held.old + vec_len behind ≤ vec_capacity held.old }
     ensures { held.new.items ≡ held.old.items ++ reverse behind.items }

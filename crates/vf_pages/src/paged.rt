@@ -50,7 +50,7 @@ impl<F: Frames> Paged<F> {
     ghost use Rattle.vf_pages.specs.Writes.{AreWrites};
     ghost use Rattle.vf_pages.specs.Calls.{Wrote, WroteAmong, IsShort, ShortAmong, OnRefusal, IsUnmade, IsAtZero, Forked, ForkedOver, KeptChanged, GivenBack};
 
-    /// A new holder at time zero, with one of the parts of `from`. After want of memory all is as it
+    /// A new holder at time zero, with one of the parts of `from`. Where it is out of memory all is as it
     /// was.
     pub fn at_zero(
         alloc: Global,
@@ -93,8 +93,8 @@ impl<F: Frames> Paged<F> {
     /// page is changed before all contents are made and all frames claimed, so after a refusal words and
     /// pages are as before.
     ///
-    /// Memory is taken for pages that are new and for contents that another holder reads, and else for
-    /// the pages past the first 32,768 of one call, which is more than a state has.
+    /// Memory is taken only for pages that are new or shared, and for contents that another holder still
+    /// reads. The stack does not depend on how many pages are written.
     ///
     /// `Short` comes where a claim found no frame. Where the pool accounts for this holder and others it
     /// comes exactly where fewer frames are free than the writes need.
@@ -155,8 +155,8 @@ impl<F: Frames> Paged<F> {
     }
 
     /// Another holder of the same words and frames, with one of the parts of `from`. It takes time
-    /// proportional to the number of pages held, and shares their contents. After want of memory all is
-    /// as it was.
+    /// proportional to the number of pages held and to the size of the table, and shares their contents.
+    /// Where it is out of memory all is as it was.
     pub fn fork(&self, pool: &mut F, from: &mut F::Token) -> Result<Paged<F>, Memory>
         requires name { self.now.holder.name ≡ F.name pool.old }
         requires from_name { (F.seen from.old).name ≡ F.name pool.old }
@@ -185,7 +185,7 @@ impl<F: Frames> Paged<F> {
 
     /// Another holder of these pages and, under them, of those of a base, with one of the parts of `from`.
     /// It takes time proportional to the number of pages of both, and shares their contents. Where both
-    /// have a frame in common it answers want of memory. After that all is as it was.
+    /// have a frame in common it answers `Memory`. Where it answers that all is as it was.
     pub fn fork_over(
         &self,
         pool: &mut F,
