@@ -3,11 +3,6 @@ use crate::touched::Touched;
 use std::test::Fail;
 use vf_base::Write;
 
-#[rattlefmt::skip]
-fn write(at: u32, word: u64) -> Write {
-    Write { at, word }
-}
-
 /// Writes on four pages, two of them on one page and one on a page that was touched before.
 #[test]
 fn counts_each_page_once(rt: HostRuntime) -> Result<(), Fail> {
@@ -15,13 +10,21 @@ fn counts_each_page_once(rt: HostRuntime) -> Result<(), Fail> {
     let mut touched = Touched::new(rt.alloc(), 5)?;
     assert_eq!(rt; touched.count(), 0);
     write_all(
-        &[write(0, 7), write(63, 8), write(64, 9)],
+        &[
+            Write { at: 0, word: 7 },
+            Write { at: 63, word: 8 },
+            Write { at: 64, word: 9 },
+        ],
         &mut words,
         &mut touched,
     );
     assert_eq!(rt; touched.count(), 2);
     write_all(
-        &[write(127, 1), write(191, 2), write(319, 3)],
+        &[
+            Write { at: 127, word: 1 },
+            Write { at: 191, word: 2 },
+            Write { at: 319, word: 3 },
+        ],
         &mut words,
         &mut touched,
     );
@@ -35,7 +38,7 @@ fn counts_each_page_once(rt: HostRuntime) -> Result<(), Fail> {
         (319, 3),
         (318, 0),
     ] {
-        assert_eq!(rt; words[at], word, "at {at}");
+        assert_eq!(rt; words.get(at).copied(), Some(word), "at {at}");
     }
     Ok(())
 }
