@@ -1,26 +1,26 @@
 -- Where a run of the farm stops is where the job's solo run is decided: save points, kinds and outcomes.
-use Rattle.std.proofs.Common.{◌≡◌, ℕ, zero, suc, ◌+◌, ◌*◌, ◌-◌, ◌<◌, ◌≤◌, ◌==◌, ◌&&◌, ◌||◌, Bool, true, false, cond, not, if◌then◌else◌, nat_lt, nat_le, List, [], length, slice_index, Option, Some, None, is_some, unwrap_or, refl, sym, ◌∙◌, ap, ap₂, subst, arith, ⊎_elim, inl, inr, ◌⊎◌}
-use Rattle.std.proofs.lemmas.Bool.{false≢true, cases_lt, cases_Bool, eqb-true, eq-eqb, ne_eqb, le-ltb, lt-ltb, ltb-false, le-leb, and_parts, and_from, and_left, and_right, and_cases, or_parts, or_from, false_from_ne_true}
+use Rattle.std.proofs.Common.{◌≡◌, ℕ, zero, suc, ◌+◌, ◌*◌, ◌<◌, ◌≤◌, ◌==◌, ◌&&◌, ◌||◌, Bool, true, false, cond, not, if◌then◌else◌, nat_lt, nat_le, List, length, slice_index, Option, Some, None, is_some, unwrap_or, refl, sym, ◌∙◌, ap, ap₂, arith, ⊎_elim, inl, inr, ◌⊎◌}
+use Rattle.std.proofs.lemmas.Bool.{false≢true, cases_lt, eq-eqb, ne_eqb, le-ltb, lt-ltb, le-leb, and_from, and_left, and_right, or_parts, or_from, false_from_ne_true}
 use Rattle.vf_base.specs.declared.names.Job.{Job}
-use Rattle.vf_base.specs.declared.names.Job.TheVariants.{Reach, Finish}
+use Rattle.vf_base.specs.declared.names.Job.TheVariants.{Reach}
 use Rattle.vf_base.specs.declared.names.NodeNo.{NodeNo}
-use Rattle.vf_base.specs.declared.run.Header.{Header}
 use Rattle.vf_base.specs.declared.run.Limits.{Limits}
 use Rattle.vf_base.specs.declared.run.Outcome.TheVariants as outcomes
 use Rattle.vf_base.specs.declared.run.SaveKind.{SaveKind}
 use Rattle.vf_base.specs.declared.run.SaveKind.TheVariants.{Full}
 use Rattle.vf_machine.specs.Laws.{EndingIsStill}
 use Rattle.vf_machine.specs.Machine.{Machine, Move, go, stop}
-use Rattle.vf_machine.specs.Search.{first, count_below, any_below}
+use Rattle.vf_machine.specs.Search.{any_below}
 use Rattle.vf_machine.specs.Run.{Moment, Turned, moment_at, text_at, turn_at, turn_of, free_turn, performed, sight_at, saved_mark, mark_at, is_ending}
 use Rattle.vf_machine.specs.Pages.{page_count, page_differs, is_touched, pages_touched}
 use Rattle.vf_machine.specs.Solo.{turns_before_end, ending_of, passing_turn}
-use Rattle.vf_machine.proofs.CallerLemmas.{turns_counted, counts_once, before_limit, touched_pages_grow_lem, run_ends_lem, IsFirst, Finds, first_finds, first_is, KeepsWithin, solo_ended, solo_passed, moment_at-suc, is_touched-suc, count_below-ext}
-use Rattle.vf_jobs.specs.Kinds.{Kind, saved, passed, ended, over, save_of, all_read, save_at, savepoint, turns_at_end, is_at, is_saved, is_passed, is_over, kind_at, first_decided, kind_of, outcome_of, savepoint_of_node}
-use Rattle.vf_journal.specs.Farm.{Farm, Point, stimulus, limits, point_zero, point_after, point_in, last_save, next_turn, touched_next, count_pages, is_at_save, is_at_pass, is_decided}
+use Rattle.vf_machine.proofs.CallerLemmas.{turns_counted, counts_once, run_ends_lem, Finds, first_finds, first_is, KeepsWithin, solo_ended, solo_passed, moment_at-suc, is_touched-suc, count_below-ext}
+use Rattle.vf_jobs.specs.Kinds.{Kind, saved, passed, ended, over, all_read, save_at, savepoint, turns_at_end, is_at, is_saved, is_passed, is_over, kind_at, kind_of, outcome_of, savepoint_of_node}
+use Rattle.vf_jobs.proofs.CallerLemmas.{decides}
+use Rattle.vf_journal.specs.Farm.{Farm, Point, stimulus, limits, point_in, last_save, is_at_save, is_at_pass, is_decided}
 use Rattle.vf_journal.specs.Journal.{pages_in}
 use Rattle.vf_journal.specs.Laws.{goes_on, ReadsGoOn}
-use Rattle.vf_journal.proofs.PointLemmas.{IsRunAt, GoesOn, below_suc, within_before, turns_at_point}
+use Rattle.vf_journal.proofs.PointLemmas.{IsRunAt, below_suc, within_before}
 
 -- ---- searches
 
@@ -38,27 +38,6 @@ ends_after m stim limits k none =
     let ends = run_ends_lem m stim limits in
     let end = turns_before_end m stim limits in
     ⊎_elim (λ lt. absurd (false≢true (sym (none end lt) ∙ ends.ending))) (λ ge. ge) (cases_lt end k)
-
--- the first that is decided is found
-abbrev or_this : Option Kind → Option Kind → Option Kind
-or_this found here = elim found [ Some kind ↦ Some kind | None ↦ here ]
-
-none_decided : (decide : ℕ → Option Kind) (n : ℕ) → ((j : ℕ) → j < n → decide j ≡ None) → first_decided decide n ≡ None
-unfolding first_decided
-none_decided decide zero none = refl
-none_decided decide (suc n) none =
-    ap (λ r. or_this r (decide n)) (none_decided decide n (λ j h. none j (omega (arith, h)))) ∙ none n (omega arith)
-
-pub decides : (decide : ℕ → Option Kind) (n i : ℕ) (kind : Kind) → i < n → ((j : ℕ) → j < i → decide j ≡ None) → decide i ≡ Some kind → first_decided decide n ≡ Some kind
-unfolding first_decided
-decides decide zero i kind h none here = absurd (omega (arith, h))
-decides decide (suc n) i kind h none here =
-    ⊎_elim
-    (λ lt. ap (λ r. or_this r (decide n)) (decides decide n i kind lt none here))
-    (λ ge.
-    let same : n ≡ i = omega (arith, h, ge) in
-    ap (λ r. or_this r (decide n)) (none_decided decide n (λ j less. none j (omega (arith, less, same)))) ∙ ap decide same ∙ here)
-    (cases_lt i n)
 
 -- the four tests of a kind
 abbrev pick : ℕ → SaveKind → Bool → Bool → Bool → Bool → Option Kind
@@ -266,8 +245,8 @@ pages_at_end f job k stands ends =
     let still = (stands stim lim k ends).state in
     count_below-ext (is_touched m stim lim (suc k)) (is_touched m stim lim k) (page_count (m.words m.start))
     (λ page _. is_touched-suc m stim lim k page
-      ∙ or_none (is_touched m stim lim k page) (page_differs (m.words (moment_at m stim lim k).state) (m.words (moment_at m stim lim (suc k)).state) page)
-      (ap (λ s. page_differs (m.words (moment_at m stim lim k).state) (m.words s) page) still ∙ same_page (m.words (moment_at m stim lim k).state) page))
+    ∙ or_none (is_touched m stim lim k page) (page_differs (m.words (moment_at m stim lim k).state) (m.words (moment_at m stim lim (suc k)).state) page)
+    (ap (λ s. page_differs (m.words (moment_at m stim lim k).state) (m.words s) page) still ∙ same_page (m.words (moment_at m stim lim k).state) page))
 
 -- a turn that passes the budget does not end the run
 pub passing_goes : {S : Type 0} (f : Farm S) (job : Job) (k : ℕ) (now : Point S) → Stands f.machine → IsRunAt f job k now → f.budget < pages_in f job (suc k)
@@ -288,7 +267,7 @@ outcome_passed f job k now stands run passes =
     let test = lt-ltb f.budget (pages_touched m stim lim (suc k)) passes in (
       (solo_passed m stim lim f.budget k goes (keeps_within f job k run.within) test).outcome,
       first_is (λ j. nat_lt f.budget (pages_touched m stim lim j)) (turns_before_end m stim lim + 1) (suc k)
-      (record { below = omega (arith, after); passes = test; least = λ j h. keeps_within f job k run.within j (omega (arith, h)) }),
+          (record { below = omega (arith, after); passes = test; least = λ j h. keeps_within f job k run.within j (omega (arith, h)) }),
     )
 
 -- ---- a turn that reads and ends the run

@@ -1,7 +1,7 @@
 -- Over every run of the farm: the journal tells the solo runs, and images and running jobs are at points of them.
-use Rattle.std.proofs.Common.{◌≡◌, ℕ, zero, suc, ◌+◌, ◌<◌, ◌≤◌, ◌==◌, ◌&&◌, ◌||◌, Bool, true, false, cond, not, if◌then◌else◌, List, [], ◌∷◌, ◌++◌, append-nil, Option, Some, None, is_some, option_map, option_and_then, refl, sym, ◌∙◌, ap, ap₂, subst, arith, ⊎_elim, inl, inr, ◌⊎◌}
-use Rattle.std.specs.List.{All, filter, find}
-use Rattle.std.proofs.lemmas.Bool.{false≢true, eqb-true, eq-eqb}
+use Rattle.std.proofs.Common.{◌≡◌, ℕ, suc, ◌+◌, ◌<◌, ◌≤◌, ◌==◌, Bool, true, false, cond, not, if◌then◌else◌, List, [], ◌∷◌, ◌++◌, append-nil, Option, Some, None, option_map, option_and_then, refl, sym, ◌∙◌, ap, ap₂, subst, arith}
+use Rattle.std.specs.List.{All}
+use Rattle.std.proofs.lemmas.Bool.{eq-eqb}
 use Rattle.std.proofs.lemmas.List.Elements.{All-nil, All-same, All-filter, All-push, All-weaker}
 use Rattle.vf_base.specs.declared.names.Job.{Job}
 use Rattle.vf_base.specs.declared.names.Job.TheVariants.{Reach, Finish}
@@ -11,10 +11,11 @@ use Rattle.vf_base.specs.declared.run.Outcome.{Outcome}
 use Rattle.vf_base.specs.declared.run.Outcome.TheVariants as outcomes
 use Rattle.vf_base.specs.declared.run.SaveKind.{SaveKind}
 use Rattle.vf_base.specs.declared.run.SaveKind.TheVariants.{Full, Incr}
-use Rattle.vf_machine.specs.Run.{Moment, Turned, moment_at, turn_at, mark_at, text_at, is_ending}
-use Rattle.vf_machine.specs.Solo.{ending_of, turns_before_end}
+use Rattle.vf_machine.specs.Run.{turn_at, mark_at, text_at, is_ending}
+use Rattle.vf_machine.specs.Solo.{ending_of}
 use Rattle.vf_plan.specs.Rules.{IsPlan}
 use Rattle.vf_jobs.specs.Jobs.{node_of, fits}
+use Rattle.vf_jobs.specs.Copies.{EndingIsCopied, PassingIsCopied}
 use Rattle.vf_jobs.specs.Kinds as solo
 use Rattle.vf_jobs.specs.Subtree.{is_below}
 use Rattle.vf_journal.specs.declared.entry.Entry.{Entry}
@@ -23,18 +24,20 @@ use Rattle.vf_journal.specs.declared.entry.Kind.{Kind}
 use Rattle.vf_journal.specs.declared.entry.Kind.TheVariants as kinds
 use Rattle.vf_journal.specs.declared.entry.Told.{Told}
 use Rattle.vf_journal.specs.declared.entry.Told.TheVariants as told
-use Rattle.vf_journal.specs.Farm.{Farm, Point, stimulus, limits, point_zero, point_after, point_in, next_turn, touched_next, count_pages, own_pages, is_at_save, is_at_pass, is_decided, done_at}
-use Rattle.vf_journal.specs.Records.{Held, Attempt, attempt_from, Stage, idle, running, deferred, over, Records, at_first, same_job, image_of}
-use Rattle.vf_journal.specs.Effects.{Seen, Guard, IsRunning, Spread, spread_of, with_over, with_copies, without_unneeded, with_its_copies, by_itself, ready_again, started_from, origin_of, is_copied, is_needed, after, consequences}
+use Rattle.vf_journal.specs.Farm.{Farm, Point, stimulus, limits, point_zero, point_after, point_in, next_turn, count_pages, own_pages, is_at_save, is_at_pass, is_decided, done_at}
+use Rattle.vf_journal.specs.Records.{Held, Attempt, attempt_from, Stage, idle, running, deferred, over, Records, same_job, image_of}
+use Rattle.vf_journal.specs.Effects.{Seen, Guard, IsRunning, Spread, spread_of, with_over, with_copies, without_unneeded, ready_again, started_from, origin_of, is_copied, is_needed, after, consequences}
 use Rattle.vf_journal.specs.Journal as journal
 use Rattle.vf_journal.specs.Journal.{IsJournal, free, of_solo, IsOfSolo, ReachesKind, held_point, base_for, still_held, pages_in}
 use Rattle.vf_journal.specs.Machine as farm
 use Rattle.vf_journal.specs.Machine.{World, Event, turned, made, Runs, MayCome, MayMake, MayTurn, MaySave, MayPass, MayEnd, MayPassBudget, seen_in, image_point, outcome_at, pages_next, point_from, put_run, with_points, with_event, turns_at}
-use Rattle.vf_journal.specs.Laws.{ReadsGoOn, IsSavePoint, IsCore, CoreLaw}
+use Rattle.vf_journal.specs.Laws.{ReadsGoOn, IsSavePoint, CoreLaw}
+use Rattle.vf_journal.proofs.JournalLemmas.{tells_solo}
+use Rattle.vf_journal.proofs.WholeLemmas.{ends_whole}
 use Rattle.vf_journal.proofs.JobLemmas.{same_node, same_job-true}
 use Rattle.vf_journal.proofs.PointLemmas.{IsRunAt, point_in-suc, run_at_zero, run_at-suc, turns_at_point, turns_within}
 use Rattle.vf_journal.proofs.DecisionLemmas.{SavesAt, Stands, savepoint_is, save_unique, kind_saved, kind_passed, kind_over, kind_ended, outcome_ended, outcome_passed, passing_goes, ends_at}
-use Rattle.vf_journal.proofs.StartLemmas.{run_from_image, find_holds, IsServed, origin_serves, origin_alike}
+use Rattle.vf_journal.proofs.StartLemmas.{run_from_image, find_holds, origin_serves, origin_alike}
 
 -- ---- a job that runs after an entry has run before, or starts with it
 
@@ -138,8 +141,8 @@ module _ {S : Type 0} (f : Farm S) (plan : IsPlan f.nodes) (stands : Stands f.ma
       let image = image_kept node h e in
       let here = ap (λ (n : NodeNo). n.0) image.1 in
       let run = run_from_image f plan h.node job h.turn (w.images h.node.0) image.0.run image.0.saved
-        (subst (λ n. is_below f.nodes n (node_of job) ≡ true) (sym here) is)
-        (subst (λ header. fits (limits f job) header ≡ true) (counts_alike node h e) fit) in
+      (subst (λ n. is_below f.nodes n (node_of job) ≡ true) (sym here) is)
+      (subst (λ header. fits (limits f job) header ≡ true) (counts_alike node h e) fit) in
       let from : RunKept f job (attempt_from (Some h)) (w.images node.0) =
       record { turns = h.turn; run = subst (λ n. IsRunAt f job h.turn (w.images n)) here run; since = omega arith } in
       subst (λ o. RunKept f job (attempt_from o) (w.images node.0)) (sym same) from
@@ -264,7 +267,7 @@ module _ {S : Type 0} (f : Farm S) (plan : IsPlan f.nodes) (stands : Stands f.ma
   on_pass node turn may =
       let run = run_now (Reach node) may.0.0 may.0.1 in
       let kind = kind_passed f node (turns_at w (Reach node)) (w.runs (Reach node)) run
-        (ap (is_at_save f (Reach node)) (sym run.at) ∙ may.1.unsaved) (ap (is_at_pass f (Reach node)) (sym run.at) ∙ may.1.at_pass) in
+      (ap (is_at_save f (Reach node)) (sym run.at) ∙ may.1.unsaved) (ap (is_at_pass f (Reach node)) (sym run.at) ∙ may.1.at_pass) in
       record {
         journal = goes_on_with f js seen r (Pass node turn) kept.journal may.0 (kind ∙ ap (λ t. Some (solo.passed t)) (sym may.1.now)) (record { records = refl; entries = refl });
         images = images_over (Reach node) None kinds.Passed None;
@@ -484,11 +487,16 @@ all_kept : {S : Type 0} (f : Farm S) → IsPlan f.nodes → Stands f.machine →
 all_kept f plan stands reads farm.begun = begun_kept f
 all_kept f plan stands reads (farm.next {es} {js} {w} e runs may) = on_event f plan stands reads js w (all_kept f plan stands reads runs) e may
 
-pub core : {S : Type 0} (f : Farm S) → Stands f.machine → CoreLaw f
-core f stands plan reads es js w runs =
+pub core : {S : Type 0} (f : Farm S) → Stands f.machine → EndingIsCopied f.machine → PassingIsCopied f.machine → CoreLaw f
+core f stands ends passes plan reads es js w runs =
     let kept = all_kept f plan stands reads runs in
     record {
       journal = kept.journal;
-      images = All-weaker (ImageKept f w.images) (IsSavePoint f w) (λ h image. record { point = image.run.at; at_save = savepoint_is f h.node h.turn (w.images h.node.0) image.run image.saved }) w.records.held kept.images;
+      told = tells_solo f ends passes plan free js w.records kept.journal;
+      whole = ends_whole f ends passes plan free js w.records kept.journal;
+      images =
+          All-weaker (ImageKept f w.images) (IsSavePoint f w)
+          (λ h image. record { point = image.run.at; at_save = savepoint_is f h.node h.turn (w.images h.node.0) image.run image.saved })
+          w.records.held kept.images;
       runs = λ job a h. (run_now f plan stands reads js w kept job a h).at;
     }

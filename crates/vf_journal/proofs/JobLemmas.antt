@@ -1,5 +1,5 @@
 -- The jobs of a plan.
-use Rattle.std.proofs.Common.{◌≡◌, ℕ, zero, suc, ◌+◌, ◌<◌, ◌≤◌, ◌==◌, ◌&&◌, ◌||◌, Bool, true, false, cond, if◌then◌else◌, List, [], ◌∷◌, ◌++◌, length, Option, Some, None, IfSome, slice_get, refl, sym, ◌∙◌, ap, ap₂, subst, arith, ⊎_elim, inl, inr, ◌⊎◌}
+use Rattle.std.proofs.Common.{◌≡◌, ℕ, zero, suc, ◌+◌, ◌<◌, ◌==◌, ◌||◌, Bool, true, false, if◌then◌else◌, List, [], ◌∷◌, ◌++◌, Some, IfSome, slice_get, refl, sym, ◌∙◌, ap, ap₂, subst, arith, ⊎_elim}
 use Rattle.std.specs.List.{list_any}
 use Rattle.std.proofs.lemmas.Bool.{false≢true, eqb-true, eq-eqb, or_left, or_right, or_cases, or_parts}
 use Rattle.std.proofs.lemmas.List.Folds.{list_any-append}
@@ -8,8 +8,7 @@ use Rattle.vf_base.specs.declared.names.Job.TheVariants.{Reach, Finish}
 use Rattle.vf_base.specs.declared.names.NodeNo.{NodeNo}
 use Rattle.vf_plan.specs.declared.plan.Node.{Node}
 use Rattle.vf_plan.specs.Rules.{IsPlan}
-use Rattle.vf_jobs.specs.Jobs as jobs
-use Rattle.vf_jobs.specs.Jobs.{node_of, node_no, has_child, is_child_of, jobs_at, jobs_from, IsJob, is_open}
+use Rattle.vf_jobs.specs.Jobs.{node_of, node_no, has_child, is_child_of, jobs_at, jobs_from, IsJob}
 use Rattle.vf_jobs.proofs.CallerLemmas.{descends}
 use Rattle.vf_journal.specs.Records.{same_job, is_job}
 
@@ -69,9 +68,9 @@ at_by all n node job true true c t h =
     ⊎_elim
     (λ here. let same = same_job-true job (Reach (node_no n)) here in record { at = ap node_of same; child = λ top e. c; test = λ top e. t })
     (λ there. ⊎_elim
-      (λ here. let same = same_job-true job (Finish (node_no n)) here in record { at = ap node_of same; child = λ top e. c; test = λ top e. t })
-      (λ none. absurd (false≢true none))
-      (or_cases (same_job job (Finish (node_no n))) false there))
+    (λ here. let same = same_job-true job (Finish (node_no n)) here in record { at = ap node_of same; child = λ top e. c; test = λ top e. t })
+    (λ none. absurd (false≢true none))
+    (or_cases (same_job job (Finish (node_no n))) false there))
     (or_cases (same_job job (Reach (node_no n))) (same_job job (Finish (node_no n)) || false) h)
 
 pub record IsFoundJob (all : List Node) (i : ℕ) (more : List Node) (job : Job) : Type 0 where
@@ -85,12 +84,20 @@ unfolding jobs_from
 found_in all i [] job h = absurd (false≢true h)
 found_in all i (node ∷ more) job h =
     ⊎_elim
-    (λ here. record { place = 0; node = node; stands = refl;
-      job_at = subst (λ n. IsJobAt all n node job) (let e : i ≡ i + 0 = omega arith in e) (at_by all i node job (has_child all i) node.test refl refl here) })
+    (λ here. record {
+      place = 0;
+      node = node;
+      stands = refl;
+      job_at = subst (λ n. IsJobAt all n node job) (let e : i ≡ i + 0 = omega arith in e) (at_by all i node job (has_child all i) node.test refl refl here);
+    })
     (λ there.
-      let rest = found_in all (i + 1) more job there in
-      record { place = suc rest.place; node = rest.node; stands = rest.stands;
-        job_at = subst (λ n. IsJobAt all n rest.node job) (let e : (i + 1) + rest.place ≡ i + suc rest.place = omega arith in e) rest.job_at })
+    let rest = found_in all (i + 1) more job there in
+    record {
+      place = suc rest.place;
+      node = rest.node;
+      stands = rest.stands;
+      job_at = subst (λ n. IsJobAt all n rest.node job) (let e : (i + 1) + rest.place ≡ i + suc rest.place = omega arith in e) rest.job_at;
+    })
     (or_cases (list_any (same_job job) (jobs_at all i node)) (list_any (same_job job) (jobs_from all (i + 1) more))
     (sym (list_any-append (same_job job) (jobs_at all i node) (jobs_from all (i + 1) more)) ∙ h))
 

@@ -1,11 +1,10 @@
 -- What a journal tells is what the solo runs tell; and where nothing is left to do, all is told.
-use Rattle.std.proofs.Common.{◌≡◌, ℕ, zero, suc, ◌+◌, ◌<◌, ◌≤◌, ◌==◌, ◌&&◌, ◌||◌, Bool, true, false, cond, not, if◌then◌else◌, List, [], ◌∷◌, ◌++◌, Option, Some, None, is_some, slice_get, refl, sym, ◌∙◌, ap, ap₂, subst, arith, ⊎_elim, inl, inr, ◌⊎◌}
-use Rattle.std.proofs.lemmas.Bool.{false≢true, and_parts, and_from, or_cases, not-true, eq-eqb}
+use Rattle.std.proofs.Common.{◌≡◌, ℕ, ◌==◌, ◌&&◌, ◌||◌, Bool, true, false, not, if◌then◌else◌, List, [], ◌∷◌, ◌++◌, Option, Some, None, refl, sym, ◌∙◌, ap, subst, ⊎_elim, inl, inr, ◌⊎◌}
+use Rattle.std.proofs.lemmas.Bool.{false≢true, and_parts, or_cases, not-true, eq-eqb}
 use Rattle.vf_base.specs.declared.names.Job.{Job}
 use Rattle.vf_base.specs.declared.names.Job.TheVariants.{Reach, Finish}
 use Rattle.vf_base.specs.declared.names.NodeNo.{NodeNo}
 use Rattle.vf_base.specs.declared.run.Outcome.{Outcome}
-use Rattle.vf_plan.specs.declared.plan.Node.{Node}
 use Rattle.vf_plan.specs.Rules.{IsPlan}
 use Rattle.vf_jobs.specs.Copies.{EndingIsCopied, PassingIsCopied}
 use Rattle.vf_jobs.specs.Jobs as jobs
@@ -19,11 +18,11 @@ use Rattle.vf_journal.specs.declared.entry.Kind.TheVariants as kinds
 use Rattle.vf_journal.specs.declared.entry.Told.{Told}
 use Rattle.vf_journal.specs.declared.entry.Told.TheVariants as told
 use Rattle.vf_journal.specs.Farm.{Farm, limits}
-use Rattle.vf_journal.specs.Records.{Held, Attempt, Stage, idle, running, deferred, over, Records, same_job, is_job, is_known, is_idle, is_running, is_deferred, is_over, is_ready, told_by, own_outcome, outcome_by, outcome_told}
-use Rattle.vf_journal.specs.Effects.{Guard, Spread, with_over, with_copies, without_unneeded, ready_again, is_copied, spread_of, by_itself, with_its_copies, after}
+use Rattle.vf_journal.specs.Records.{Held, Attempt, Stage, idle, running, deferred, over, Records, same_job, is_job, is_known, is_idle, is_running, is_over, is_ready, told_by, own_outcome, outcome_by}
+use Rattle.vf_journal.specs.Effects.{Guard, Spread, with_over, with_copies, ready_again, is_copied, after}
 use Rattle.vf_journal.specs.Journal.{IsJournal, Choice, begun, next, of_solo, IsOfSolo, ReachesKind, kind_of}
-use Rattle.vf_journal.specs.Laws.{IsKind, IsTold, TellsSolo, IsDone, IsWhole, EndsWhole}
-use Rattle.vf_journal.proofs.JobLemmas.{same_node, same_job-true, none_passes, planned, is_job_of, reaches, parent_reached}
+use Rattle.vf_journal.specs.Laws.{IsKind, TellsSolo}
+use Rattle.vf_journal.proofs.JobLemmas.{same_node, same_job-true, is_job_of}
 
 -- what is told of a job
 abbrev pub ToldOk : {S : Type 0} → Farm S → Records → Job → Option Told → Type 0

@@ -2,8 +2,8 @@ pub mod JobLemmas
 pub mod PointLemmas
 pub mod DecisionLemmas
 pub mod StartLemmas
-pub mod FarmLemmas
 pub mod JournalLemmas
 pub mod WholeLemmas
+pub mod FarmLemmas
 pub mod ReplayLemmas
 mod Rows

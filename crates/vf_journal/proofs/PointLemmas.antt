@@ -1,19 +1,12 @@
 -- Points of runs: a run of the farm is at every moment a point of its job's solo run.
-use Rattle.std.proofs.Common.{◌≡◌, ℕ, zero, suc, ◌+◌, ◌-◌, ◌<◌, ◌≤◌, ◌==◌, ◌&&◌, ◌||◌, Bool, true, false, cond, not, if◌then◌else◌, nat_lt, nat_le, List, [], length, Option, Some, None, is_some, unwrap_or, refl, sym, ◌∙◌, ap, ap₂, subst, arith, ⊎_elim}
-use Rattle.std.proofs.lemmas.Bool.{false≢true, cases_lt, cases_Bool, eqb-true, eq-eqb, ne_eqb, le-ltb, lt-ltb, ltb-false, le-leb, and_parts, and_from, and_left, and_right, and_cases, or_parts, or_from}
+use Rattle.std.proofs.Common.{◌≡◌, ℕ, zero, suc, ◌<◌, ◌≤◌, Bool, false, cond, refl, sym, ◌∙◌, ap, subst, arith, ⊎_elim}
+use Rattle.std.proofs.lemmas.Bool.{cases_lt}
 use Rattle.vf_base.specs.declared.names.Job.{Job}
-use Rattle.vf_base.specs.declared.names.Job.TheVariants.{Reach, Finish}
-use Rattle.vf_base.specs.declared.names.NodeNo.{NodeNo}
-use Rattle.vf_base.specs.declared.run.Header.{Header}
-use Rattle.vf_base.specs.declared.run.Limits.{Limits}
-use Rattle.vf_base.specs.declared.run.SaveKind.{SaveKind}
-use Rattle.vf_machine.specs.Machine.{Machine}
 use Rattle.vf_machine.specs.Search.{count_below}
-use Rattle.vf_machine.specs.Run.{Moment, Turned, moment_at, text_at, turn_at, turn_of, mark_at, is_ending}
-use Rattle.vf_machine.specs.Pages.{page_count, page_differs, is_touched, pages_touched}
-use Rattle.vf_machine.specs.Solo.{turns_before_end}
+use Rattle.vf_machine.specs.Run.{moment_at, text_at, mark_at, is_ending}
+use Rattle.vf_machine.specs.Pages.{page_count, is_touched}
 use Rattle.vf_machine.proofs.CallerLemmas.{turns_counted, before_limit, touched_pages_grow_lem, is_touched-zero}
-use Rattle.vf_journal.specs.Farm.{Farm, Point, stimulus, limits, point_zero, point_after, point_in, next_turn, touched_next, count_pages, is_at_save, is_at_pass, is_decided}
+use Rattle.vf_journal.specs.Farm.{Farm, Point, stimulus, limits, point_zero, point_after, point_in, next_turn, touched_next, count_pages, is_decided}
 use Rattle.vf_journal.specs.Journal.{pages_in}
 
 pub point_in-zero : {S : Type 0} (f : Farm S) (job : Job) → point_in f job 0 ≡ point_zero f

@@ -1,9 +1,7 @@
 -- A journal's records are its replay, and its turns are those of its attempts.
-use Rattle.std.proofs.Common.{◌≡◌, ℕ, ◌+◌, Bool, true, false, cond, if◌then◌else◌, List, [], ◌∷◌, ◌++◌, map, Option, Some, None, refl, sym, ◌∙◌, ap, ap₂, subst, arith}
-use Rattle.std.specs.List.{filter}
+use Rattle.std.proofs.Common.{◌≡◌, ℕ, ◌+◌, Bool, true, false, if◌then◌else◌, List, [], ◌∷◌, ◌++◌, map, Option, Some, None, refl, sym, ◌∙◌, ap, arith}
 use Rattle.vf_base.specs.declared.names.Job.{Job}
 use Rattle.vf_base.specs.declared.names.NodeNo.{NodeNo}
-use Rattle.vf_jobs.specs.Jobs as jobs
 use Rattle.vf_jobs.specs.Jobs.{node_no}
 use Rattle.vf_journal.specs.declared.entry.Entry.{Entry}
 use Rattle.vf_journal.specs.declared.entry.Entry.TheVariants.{Copy, Retire}
@@ -87,9 +85,9 @@ replayed f (next {js} {r} e before guard chosen solo) =
     let s = of_solo f in
     let es = consequences f s r e in
     sym (replay-append f s at_first js (e ∷ es)
-      ∙ ap (λ x. replay f s x (e ∷ es)) (sym (replayed f before))
-      ∙ replay-cons f s r e es
-      ∙ (still_consequences f s r e).records (after f s r e))
+    ∙ ap (λ x. replay f s x (e ∷ es)) (sym (replayed f before))
+    ∙ replay-cons f s r e es
+    ∙ (still_consequences f s r e).records (after f s r e))
 
 pub is_replayed : {S : Type 0} (f : Farm S) → IsReplayed f
 is_replayed f choice js r journal = replayed f journal

@@ -1,13 +1,11 @@
 -- Worked farms, in which each step of the rules is computed: what follows from an entry, which job starts next and from where, and which
 -- image goes first. What the runs come to stands in a table.
-use Rattle.std.proofs.Common.{◌≡◌, ℕ, Bool, true, false, List, [], ◌∷◌, ◌++◌, Option, Some, None, option_map, refl, cond}
+use Rattle.std.proofs.Common.{◌≡◌, ℕ, Bool, true, false, List, [], ◌∷◌, ◌++◌, Option, Some, None, option_map, refl}
 use Rattle.vf_base.specs.declared.names.Job.{Job}
 use Rattle.vf_base.specs.declared.names.Job.TheVariants.{Reach, Finish}
 use Rattle.vf_base.specs.declared.names.NodeNo.{NodeNo}
 use Rattle.vf_base.specs.declared.run.Ending.TheVariants as endings
-use Rattle.vf_base.specs.declared.run.Header.{Header}
 use Rattle.vf_base.specs.declared.run.Limits.{Limits}
-use Rattle.vf_base.specs.declared.run.Outcome.{Outcome}
 use Rattle.vf_base.specs.declared.run.Outcome.TheVariants as outcomes
 use Rattle.vf_machine.specs.Machine.{Machine, stop}
 use Rattle.vf_plan.specs.declared.plan.Node.{Node}
@@ -17,13 +15,10 @@ use Rattle.vf_jobs.specs.declared.setup.Order.TheVariants.{Oldest, Deepest, Wide
 use Rattle.vf_jobs.specs.Jobs.{jobs_from, node_no}
 use Rattle.vf_jobs.specs.Limits.{greatest_from}
 use Rattle.vf_journal.specs.declared.entry.Entry.{Entry}
-use Rattle.vf_journal.specs.declared.entry.Entry.TheVariants.{Start, Saved, Pass, End, Pages, Copy, Lost, Short, Evict, Retire, Rest}
-use Rattle.vf_journal.specs.declared.entry.JobState.{JobState}
-use Rattle.vf_journal.specs.declared.entry.JobState.TheVariants.{Waiting, Ready, Running, Deferred, Over}
-use Rattle.vf_journal.specs.declared.entry.Kind.{Kind}
-use Rattle.vf_journal.specs.declared.entry.Kind.TheVariants as kinds
+use Rattle.vf_journal.specs.declared.entry.Entry.TheVariants.{Start, Saved, Pass, End, Copy, Evict, Retire}
+use Rattle.vf_journal.specs.declared.entry.JobState.TheVariants.{Waiting, Over}
 use Rattle.vf_journal.specs.Farm.{Farm}
-use Rattle.vf_journal.specs.Records.{Held, Records, at_first, state_of}
+use Rattle.vf_journal.specs.Records.{Held, at_first, state_of}
 use Rattle.vf_journal.specs.Effects.{Seen, origin_of, consequences}
 use Rattle.vf_journal.specs.Journal.{replay, first_ready, next_evicted}
 

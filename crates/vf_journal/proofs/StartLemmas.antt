@@ -1,5 +1,5 @@
 -- A job that starts from an image goes on from a point of its own solo run.
-use Rattle.std.proofs.Common.{◌≡◌, ℕ, zero, suc, ◌+◌, ◌-◌, ◌<◌, ◌≤◌, ◌==◌, ◌&&◌, ◌||◌, Bool, true, false, cond, if◌then◌else◌, List, [], ◌∷◌, ◌++◌, length, length-append, drop, Option, Some, None, is_some, option_map, refl, sym, ◌∙◌, ap, ap₂, subst, arith, ⊎_elim}
+use Rattle.std.proofs.Common.{◌≡◌, ℕ, zero, suc, ◌+◌, ◌-◌, ◌<◌, ◌≤◌, ◌==◌, ◌&&◌, ◌||◌, Bool, true, false, cond, if◌then◌else◌, List, [], ◌∷◌, length, length-append, drop, Option, Some, None, is_some, option_map, refl, sym, ◌∙◌, ap, ap₂, subst, arith}
 use Rattle.std.specs.List.{list_any, find, All}
 use Rattle.std.proofs.Math.Path.{fun_ext}
 use Rattle.std.proofs.lemmas.Bool.{false≢true, eqb-true, eq-eqb, and_parts, or_left, or_right}
@@ -9,24 +9,21 @@ use Rattle.vf_base.specs.declared.names.Job.TheVariants.{Reach, Finish}
 use Rattle.vf_base.specs.declared.names.NodeNo.{NodeNo}
 use Rattle.vf_base.specs.declared.run.Header.{Header}
 use Rattle.vf_base.specs.declared.run.Limits.{Limits}
-use Rattle.vf_base.specs.declared.run.SaveKind.{SaveKind}
-use Rattle.vf_machine.specs.Machine.{Machine}
-use Rattle.vf_machine.specs.Run.{Moment, moment_at, mark_at, is_ending}
+use Rattle.vf_machine.specs.Run.{Moment, moment_at, is_ending}
 use Rattle.vf_machine.specs.Pages.{page_count, page_differs, is_touched}
 use Rattle.vf_machine.specs.Laws.{SameFor}
 use Rattle.vf_machine.proofs.CallerLemmas.{is_touched-zero, is_touched-suc, later, reads_grow, count_below-ext, prefix, run_ends_lem}
-use Rattle.vf_plan.specs.Paths.{joined, path}
+use Rattle.vf_plan.specs.Paths.{path}
 use Rattle.vf_plan.specs.Rules.{IsPlan}
 use Rattle.vf_jobs.specs.Jobs as jobs
 use Rattle.vf_jobs.specs.Jobs.{node_of, node_no, fits, holds_fitting, first_fitting, sources}
-use Rattle.vf_jobs.specs.Kinds.{save_of, savepoint_of_node}
+use Rattle.vf_jobs.specs.Kinds.{save_of}
 use Rattle.vf_jobs.specs.Subtree.{is_below}
 use Rattle.vf_jobs.proofs.CallerLemmas.{begins, below, descends, shares_save_point}
-use Rattle.vf_journal.specs.Farm.{Farm, Point, stimulus, limits, point_in, last_save, has_read_all, is_at_save, is_at_pass, is_decided}
+use Rattle.vf_journal.specs.Farm.{Farm, Point, stimulus, limits, point_in, last_save, has_read_all, is_decided}
 use Rattle.vf_journal.specs.Records.{Held, Records, image_of}
 use Rattle.vf_journal.specs.Effects.{Seen, origin_of}
-use Rattle.vf_journal.specs.Journal.{pages_in}
-use Rattle.vf_journal.proofs.PointLemmas.{IsRunAt, GoesOn}
+use Rattle.vf_journal.proofs.PointLemmas.{IsRunAt}
 use Rattle.vf_journal.proofs.DecisionLemmas.{SavesAt, savepoint_is}
 
 -- ---- the run of a job below an image
@@ -82,7 +79,7 @@ module _ {S : Type 0} (f : Farm S) (plan : IsPlan f.nodes) (n : NodeNo) (job : J
       let grown = later (λ (x : Moment S). x.header.reads) m stim lim (λ x. reads_grow m stim lim x) k (t - k) in
       let end = ap (λ j. (moment_at m stim lim j).header.reads) (let j : k + (t - k) ≡ t = omega (arith, h) in j) in
       let whole = eqb-true (moment_at m stim lim t).header.reads (length stim)
-        (and_parts (has_read_all f (Reach n) (point_in f (Reach n) t)) (is_some (point_in f (Reach n) t).saved) saved).0 in
+      (and_parts (has_read_all f (Reach n) (point_in f (Reach n) t)) (is_some (point_in f (Reach n) t).saved) saved).0 in
       omega (arith, grown, end, whole)
 
   undecided_by : (other : Job) → length (stimulus f (Reach n)) ≤ length (stimulus f other) → (k : ℕ) → k < t → is_decided f other (point_in f (Reach n) k) ≡ false
@@ -92,8 +89,8 @@ module _ {S : Type 0} (f : Farm S) (plan : IsPlan f.nodes) (n : NodeNo) (job : J
       let within = reads_below k (omega (arith, h)) in
       decided_less (has_read_all f (Reach n) p) (has_read_all f (Reach other) p) (is_some p.saved) (f.machine.at_read p.moment.state)
       (λ e.
-        let all = eqb-true p.moment.header.reads (length (stimulus f (Reach other))) e in
-        eq-eqb p.moment.header.reads (length (stimulus f (Reach n))) (omega (arith, all, within, more)))
+      let all = eqb-true p.moment.header.reads (length (stimulus f (Reach other))) e in
+      eq-eqb p.moment.header.reads (length (stimulus f (Reach n))) (omega (arith, all, within, more)))
       (run.undecided k h)
 
   pub run_from_image : IsRunAt f job t now
@@ -103,7 +100,7 @@ module _ {S : Type 0} (f : Farm S) (plan : IsPlan f.nodes) (n : NodeNo) (job : J
     undecided = λ j h. ap (is_decided f job) (sym (points_same j (omega (arith, h)))) ∙ undecided_by job long j h;
     within =
         let pages = count_below-ext (is_touched f.machine (stimulus f (Reach n)) (limits f (Reach n)) t) (is_touched f.machine (stimulus f job) (limits f job) t)
-          (page_count (f.machine.words f.machine.start)) (λ page _. touched_same t (omega arith) page) in
+        (page_count (f.machine.words f.machine.start)) (λ page _. touched_same t (omega arith) page) in
         omega (arith, pages, run.within);
   }
 

@@ -1,5 +1,5 @@
 -- Where no job is ready, running or deferred, each job is over and each test that was not lost has an outcome.
-use Rattle.std.proofs.Common.{◌≡◌, ℕ, zero, suc, ◌+◌, ◌<◌, ◌≤◌, ◌==◌, ◌&&◌, ◌||◌, Bool, true, false, cond, if◌then◌else◌, List, Option, Some, None, is_some, slice_get, refl, sym, ◌∙◌, ap, subst, arith, inl, inr, ◌⊎◌}
+use Rattle.std.proofs.Common.{◌≡◌, ℕ, zero, suc, ◌<◌, ◌&&◌, Bool, true, false, if◌then◌else◌, Option, Some, None, is_some, slice_get, refl, sym, ◌∙◌, ap, arith, inl, inr, ◌⊎◌}
 use Rattle.std.proofs.lemmas.Bool.{false≢true, and_from}
 use Rattle.vf_base.specs.declared.names.Job.{Job}
 use Rattle.vf_base.specs.declared.names.Job.TheVariants.{Reach, Finish}
@@ -12,8 +12,7 @@ use Rattle.vf_jobs.specs.Jobs.{node_of, has_child, is_open}
 use Rattle.vf_journal.specs.declared.entry.Told.{Told}
 use Rattle.vf_journal.specs.declared.entry.Told.TheVariants as told
 use Rattle.vf_journal.specs.Farm.{Farm}
-use Rattle.vf_journal.specs.Records.{Attempt, Stage, idle, running, deferred, over, Records, is_job, is_known, is_idle, is_running, is_deferred, is_over, is_ready, told_by, own_outcome, outcome_by, outcome_told}
-use Rattle.vf_journal.specs.Journal.{of_solo}
+use Rattle.vf_journal.specs.Records.{Stage, idle, running, deferred, over, Records, is_job, is_known, is_idle, is_running, is_deferred, is_over, is_ready, told_by, own_outcome, outcome_by}
 use Rattle.vf_journal.specs.Laws.{IsDone, IsWhole, EndsWhole}
 use Rattle.vf_journal.proofs.JobLemmas.{none_passes, planned, reaches, parent_reached}
 use Rattle.vf_journal.proofs.JournalLemmas.{Kept, ToldOk, all_kept}
@@ -26,7 +25,7 @@ module _ {S : Type 0} (f : Farm S) (plan : IsPlan f.nodes) (r : Records) (kept :
   over_by : (job : Job) (s : Stage) → r.stages job ≡ s → is_job f.nodes job ≡ true → jobs.is_ready f.nodes known job ≡ true → is_over s ≡ true
   over_by job idle e is waits =
       let ready : is_ready f r job ≡ true = and_from (is_job f.nodes job) (is_idle (r.stages job) && jobs.is_ready f.nodes known job) is
-        (and_from (is_idle (r.stages job)) (jobs.is_ready f.nodes known job) (ap is_idle e) waits) in
+      (and_from (is_idle (r.stages job)) (jobs.is_ready f.nodes known job) (ap is_idle e) waits) in
       absurd (false≢true (sym (none_passes (is_ready f r) job (jobs.jobs f.nodes) done.ready is) ∙ ready))
   over_by job (running a) e is waits =
       absurd (false≢true (sym (none_passes (λ j. is_running (r.stages j)) job (jobs.jobs f.nodes) done.running is) ∙ ap is_running e))

@@ -1,25 +1,23 @@
 -- When a job starts and ends, and what follows from it (docs/FARM.md, "The farm"). The rules are the same for a farm that runs and for a
 -- journal that is replayed; what they ask of the runs is handed in.
 use Rattle.std.specs.Prelude.{◌≡◌, ℕ, zero, suc, Bool, true, false, ◌&&◌, ◌||◌, ◌==◌, not, if◌then◌else◌, List, [], ◌∷◌, ◌++◌, length, map, Option, Some, None, option_map, option_and_then, is_some}
-use Rattle.std.specs.List.{list_any, filter}
+use Rattle.std.specs.List.{filter}
 use Rattle.vf_base.specs.declared.names.Job.{Job}
 use Rattle.vf_base.specs.declared.names.Job.TheVariants.{Reach, Finish}
 use Rattle.vf_base.specs.declared.names.NodeNo.{NodeNo}
 use Rattle.vf_base.specs.declared.run.Header.{Header}
-use Rattle.vf_base.specs.declared.run.Limits.{Limits}
 use Rattle.vf_base.specs.declared.run.Outcome.{Outcome}
 use Rattle.vf_jobs.specs.Jobs as jobs
 use Rattle.vf_jobs.specs.Jobs.{node_of, node_no, fits, passing_fits}
 use Rattle.vf_jobs.specs.Subtree.{is_below}
 use Rattle.vf_journal.specs.declared.entry.Entry.{Entry}
 use Rattle.vf_journal.specs.declared.entry.Entry.TheVariants.{Start, Saved, Pass, End, Pages, Copy, Lost, Short, Evict, Retire, Rest}
-use Rattle.vf_journal.specs.declared.entry.JobState.TheVariants as states
 use Rattle.vf_journal.specs.declared.entry.Kind.{Kind}
 use Rattle.vf_journal.specs.declared.entry.Kind.TheVariants as kinds
 use Rattle.vf_journal.specs.declared.entry.Told.{Told}
 use Rattle.vf_journal.specs.declared.entry.Told.TheVariants as told
 use Rattle.vf_journal.specs.Farm.{Farm, limits}
-use Rattle.vf_journal.specs.Records.{Held, Attempt, attempt_from, Stage, idle, running, deferred, over, Records, same_job, is_job, is_ready, is_running, is_deferred, is_over, state_of, some_job, image_of, is_pinned}
+use Rattle.vf_journal.specs.Records.{Held, Attempt, attempt_from, Stage, idle, running, deferred, over, Records, same_job, is_job, is_ready, is_running, is_deferred, is_over, some_job, image_of, is_pinned}
 
 -- What the rules ask of the runs: the counts of a held image, the counts at the ending of a job's run, and what the run comes to.
 pub record Seen : Type 0 where

@@ -1,10 +1,10 @@
 -- What a farm is given, and the solo runs of its jobs (docs/FARM.md, "The farm").
-use Rattle.std.specs.Prelude.{ℕ, zero, suc, ◌+◌, Bool, List, [], ◌++◌, Option, Some, None, ◌&&◌, ◌||◌, ◌==◌, not, false, length, is_some}
+use Rattle.std.specs.Prelude.{ℕ, zero, suc, Bool, List, [], ◌++◌, Option, Some, None, ◌&&◌, ◌||◌, ◌==◌, not, false, length, is_some}
 use Rattle.vf_base.specs.declared.names.Job.{Job}
 use Rattle.vf_base.specs.declared.names.Job.TheVariants.{Reach, Finish}
 use Rattle.vf_base.specs.declared.run.Limits.{Limits}
 use Rattle.vf_base.specs.declared.run.Outcome.{Outcome}
-use Rattle.vf_base.specs.declared.run.Outcome.TheVariants.{Done, Pages}
+use Rattle.vf_base.specs.declared.run.Outcome.TheVariants.{Done}
 use Rattle.vf_base.specs.declared.run.SaveKind.{SaveKind}
 use Rattle.vf_machine.specs.Machine.{Machine}
 use Rattle.vf_machine.specs.Search.{count_below}

@@ -8,7 +8,7 @@ use Rattle.vf_base.specs.declared.run.Ending.{Ending}
 use Rattle.vf_base.specs.declared.run.Outcome.TheVariants as outcomes
 use Rattle.vf_base.specs.declared.run.SaveKind.{SaveKind}
 use Rattle.vf_base.specs.declared.run.SaveKind.TheVariants.{Full, Incr}
-use Rattle.vf_machine.specs.Run.{moment_at, turn_at}
+use Rattle.vf_machine.specs.Run.{turn_at}
 use Rattle.vf_machine.specs.Solo.{turns_before_end, passing_turn}
 use Rattle.vf_plan.specs.Paths.{path}
 use Rattle.vf_jobs.specs.declared.setup.Order.{Order}
@@ -18,7 +18,7 @@ use Rattle.vf_jobs.specs.Kinds as solo
 use Rattle.vf_journal.specs.declared.entry.Entry.{Entry}
 use Rattle.vf_journal.specs.declared.entry.Entry.TheVariants.{Start, Saved, Pass, End, Pages, Copy, Lost, Short, Evict, Retire, Rest}
 use Rattle.vf_journal.specs.Farm.{Farm, Point, stimulus, limits, point_in, own_pages, count_pages}
-use Rattle.vf_journal.specs.Records.{Held, Attempt, Stage, idle, running, deferred, over, Records, at_first, same_job, is_ready, image_of, is_pinned}
+use Rattle.vf_journal.specs.Records.{Held, Stage, idle, running, deferred, over, Records, at_first, same_job, is_ready, image_of, is_pinned}
 use Rattle.vf_journal.specs.Effects.{Seen, Guard, IsAlone, after, consequences}
 
 -- ---- what a journal tells of the solo runs

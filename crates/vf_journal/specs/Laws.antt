@@ -1,5 +1,5 @@
 -- The laws of farms and journals, over any machine. Each is the contract of a function of `laws`.
-use Rattle.std.specs.Prelude.{◌≡◌, ◌⊎◌, ℕ, ◌+◌, Bool, true, false, List, ◌∷◌, ◌++◌, Option, Some, None, is_some}
+use Rattle.std.specs.Prelude.{◌≡◌, ◌⊎◌, ℕ, ◌+◌, Bool, true, false, List, ◌∷◌, ◌++◌, Some, is_some}
 use Rattle.std.specs.List.{All}
 use Rattle.vf_base.specs.declared.names.Job.{Job}
 use Rattle.vf_base.specs.declared.names.Job.TheVariants.{Reach, Finish}
@@ -27,23 +27,6 @@ goes_on (stop ending) = false
 -- a turn that reads the stimulus does not end the run by itself
 abbrev pub ReadsGoOn : {S : Type 0} → Machine S → Type 0
 ReadsGoOn {S} m = (sight : Sight) (s : S) → m.at_read s ≡ true → goes_on (m.move sight s) ≡ true
-
--- a held image is its node's save point
-pub record IsSavePoint {S : Type 0} (f : Farm S) (w : World S) (h : Held) : Type 0 where
-  pub point : w.images h.node.0 ≡ point_in f (Reach h.node) h.turn
-  pub at_save : savepoint_of_node f.machine f.given f.nodes h.node ≡ Some h.turn
-
--- What a run of the farm has come to: its journal is one of the farm, whose turns, kinds, pages, endings and outcomes are those of the
--- solo runs, and the records are those that the journal comes to; each held image is its node's save point; and each running job is at a
--- point of its solo run.
-pub record IsCore {S : Type 0} (f : Farm S) (js : List Entry) (w : World S) : Type 0 where
-  pub journal : IsJournal f free js w.records
-  pub images : All (IsSavePoint f w) w.records.held
-  pub runs : (job : Job) (attempt : Attempt) → IsRunning w.records job attempt → w.runs job ≡ point_in f job (turns_at w job)
-
--- The core law: whatever jobs start, whatever images are evicted, and however the turns of jobs interleave.
-abbrev pub CoreLaw : {S : Type 0} → Farm S → Type 0
-CoreLaw {S} f = IsPlan f.nodes → ReadsGoOn f.machine → (es : List Event) (js : List Entry) (w : World S) → Runs f es js w → IsCore f js w
 
 -- ---- what a journal tells
 
@@ -92,3 +75,26 @@ abbrev pub TurnsAddUp : {S : Type 0} → Farm S → Type 0
 TurnsAddUp {S} f =
     (choice : Choice) (js : List Entry) (r : Records) (e : Entry) → IsJournal f choice js r
     → turns_from f at_first (js ++ e ∷ consequences f (of_solo f) r e) ≡ turns_from f at_first js + closed_turns r (closing_of e)
+
+-- ---- runs of the farm
+
+-- a held image is its node's save point
+pub record IsSavePoint {S : Type 0} (f : Farm S) (w : World S) (h : Held) : Type 0 where
+  pub point : w.images h.node.0 ≡ point_in f (Reach h.node) h.turn
+  pub at_save : savepoint_of_node f.machine f.given f.nodes h.node ≡ Some h.turn
+
+-- What a run of the farm has come to. Its journal is one of the farm, whose turns, kinds, pages and endings are those of the solo runs, and
+-- the records are those that the journal comes to; each outcome told is that of the job's solo run; where nothing is left to do, each job is
+-- over and each test that was not lost has an outcome; each held image is its node's save point; and each running job is at a point of its
+-- solo run.
+pub record IsCore {S : Type 0} (f : Farm S) (js : List Entry) (w : World S) : Type 0 where
+  pub journal : IsJournal f free js w.records
+  pub told : IsTold f w.records
+  pub whole : IsDone f w.records → IsWhole f w.records
+  pub images : All (IsSavePoint f w) w.records.held
+  pub runs : (job : Job) (attempt : Attempt) → IsRunning w.records job attempt → w.runs job ≡ point_in f job (turns_at w job)
+
+-- The core law: whatever jobs start, whatever images are evicted, and however the turns of jobs interleave.
+abbrev pub CoreLaw : {S : Type 0} → Farm S → Type 0
+CoreLaw {S} f =
+    IsPlan f.nodes → ReadsGoOn f.machine → (es : List Event) (js : List Entry) (w : World S) → Runs f es js w → IsCore f js w

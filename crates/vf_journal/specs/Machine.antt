@@ -1,14 +1,13 @@
 -- The farm as a machine: jobs that run from origins, images, and the events that change them (docs/FARM.md, "The farm"). Runs of jobs are
 -- made turn by turn here, and what they come to is read off their last points.
-use Rattle.std.specs.Prelude.{◌≡◌, ℕ, ◌<◌, ◌≤◌, Bool, true, false, ◌==◌, if◌then◌else◌, List, [], ◌∷◌, ◌++◌, Option, Some, None, option_map}
+use Rattle.std.specs.Prelude.{◌≡◌, ℕ, ◌<◌, ◌≤◌, true, false, ◌==◌, if◌then◌else◌, List, [], ◌∷◌, ◌++◌, Option, Some, None, option_map}
 use Rattle.vf_base.specs.declared.names.Job.{Job}
-use Rattle.vf_base.specs.declared.names.Job.TheVariants.{Reach, Finish}
+use Rattle.vf_base.specs.declared.names.Job.TheVariants.{Reach}
 use Rattle.vf_base.specs.declared.names.NodeNo.{NodeNo}
 use Rattle.vf_base.specs.declared.run.Outcome.{Outcome}
 use Rattle.vf_base.specs.declared.run.Outcome.TheVariants as outcomes
 use Rattle.vf_base.specs.declared.run.SaveKind.{SaveKind}
 use Rattle.vf_machine.specs.Run.{is_ending}
-use Rattle.vf_jobs.specs.Jobs.{node_no}
 use Rattle.vf_journal.specs.declared.entry.Entry.{Entry}
 use Rattle.vf_journal.specs.declared.entry.Entry.TheVariants.{Start, Saved, Pass, End, Pages, Copy, Lost, Short, Evict, Retire, Rest}
 use Rattle.vf_journal.specs.Farm.{Farm, Point, point_zero, point_after, next_turn, touched_next, count_pages, own_pages, is_at_save, is_at_pass, is_decided, done_at}

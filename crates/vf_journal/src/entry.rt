@@ -56,17 +56,33 @@ pub enum Entry {
         base: Option<NodeNo>,
     },
     /// The job that reaches the node is over: the next turn would read past the node's stimulus.
-    Pass { node: NodeNo, turn: u64 },
+    Pass {
+        node: NodeNo,
+        turn: u64,
+    },
     /// A job is over with the ending of its run. `turn` counts the turns of its outcome.
-    End { job: Job, turn: u64 },
+    End {
+        job: Job,
+        turn: u64,
+    },
     /// A job is over: the turn after `turn` would bring its touched pages to `pages`, above the budget.
-    Pages { job: Job, turn: u64, pages: u32 },
+    Pages {
+        job: Job,
+        turn: u64,
+        pages: u32,
+    },
     /// A job is over with the outcome of the job that reaches the node.
     Copy(Job, NodeNo),
     /// A job is over without an outcome: memory ran out. A job that had not started is at turn 0.
-    Lost { job: Job, turn: u64 },
+    Lost {
+        job: Job,
+        turn: u64,
+    },
     /// A job's attempt is given up: no frame is free and no image is held.
-    Short { job: Job, turn: u64 },
+    Short {
+        job: Job,
+        turn: u64,
+    },
     /// An image is given back for its frames.
     Evict(NodeNo),
     /// An image is given back, since no job below its node is left.

@@ -3,19 +3,26 @@
 
 ghost use Rattle.vf_journal.specs.Farm.{Farm};
 ghost use Rattle.vf_journal.specs.Laws.{
-    CoreLaw, TellsSolo, EndsWhole, IsReplayed, TurnsAddUp,
+  CoreLaw,
+  TellsSolo,
+  EndsWhole,
+  IsReplayed,
+  TurnsAddUp,
 };
 
 use vf_jobs::laws::{endings_are_copied, passings_are_copied};
 use vf_machine::laws::ending_is_still;
 
 /// Whatever jobs start, whatever images are evicted, and however the turns of jobs interleave: the
-/// journal of a farm tells turns, kinds, pages, endings and outcomes of the solo runs, each held image
-/// is its node's save point, and each running job is at a point of its solo run.
+/// journal of a farm tells turns, kinds, pages, endings and outcomes of the solo runs; where no job is
+/// left, each is over and each test that was not lost has an outcome; each held image is its node's save
+/// point, and each running job is at a point of its solo run.
 pub fn core_law<S>()
     ensures { (f : Farm S) → CoreLaw f }
 {
     ending_is_still::<S>();
+    endings_are_copied::<S>();
+    passings_are_copied::<S>();
 }
 
 /// Each outcome that a journal tells of a job, its own or a copied one, is that of the job's solo run,
