@@ -1,5 +1,5 @@
 -- Each word of a state stands at its address, and the words are as many as the design says.
-use Rattle.std.proofs.Common.{◌≡◌, ℕ, ◌-◌, ◌<◌, ◌≤◌, length, replicate, slice_index, refl, ◌∙◌, arith, ⊎_elim}
+use Rattle.std.proofs.Common.{◌≡◌, ℕ, ◌-◌, length, replicate, slice_index, refl, ◌∙◌, arith, ⊎_elim}
 use Rattle.std.proofs.lemmas.Bool.{cases_lt}
 use Rattle.std.proofs.lemmas.List.{length-replicate, get_or-replicate, get_or-append_right, get_or_past}
 use Rattle.vf_design.specs.Program.{Program, word_count}

@@ -1,11 +1,10 @@
 -- A turn that reads the stimulus goes on.
-use Rattle.std.proofs.Common.{◌≡◌, Bool, true, Option, Some, None, refl, ◌∙◌, ap}
+use Rattle.std.proofs.Common.{◌≡◌, true, Option, Some, None, refl, ◌∙◌, ap}
 use Rattle.std.proofs.lemmas.Bool.{false≢true}
-use Rattle.vf_machine.specs.Machine.{Sight, stops}
+use Rattle.vf_machine.specs.Machine.{stops}
 use Rattle.vf_design.specs.declared.code.Instr.{Instr}
 use Rattle.vf_design.specs.declared.code.Instr.TheVariants.{Getc, Jump, Unless, Show, Save, IncSave, Finish, Halt}
-use Rattle.vf_design.specs.Program.{Program}
-use Rattle.vf_design.specs.State.{State, Status, halted, active, running}
+use Rattle.vf_design.specs.State.{Status, halted, active, running}
 use Rattle.vf_design.specs.Step.{instruction, is_at_read, move_from, is_drained, perform}
 use Rattle.vf_design.specs.Laws.{ReadsGoOn}
 

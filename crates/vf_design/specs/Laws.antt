@@ -1,5 +1,5 @@
 -- The laws of the machine of a design. Each is the contract of a function of `laws`.
-use Rattle.std.specs.Prelude.{◌≡◌, Bool, true, false, List, ℕ}
+use Rattle.std.specs.Prelude.{◌≡◌, true, List, ℕ}
 use Rattle.vf_base.specs.declared.run.Limits.{Limits}
 use Rattle.vf_machine.specs.Machine.{Sight}
 use Rattle.vf_machine.specs.Laws.{IsStimulus, GoesOn}

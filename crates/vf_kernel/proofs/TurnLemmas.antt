@@ -7,7 +7,7 @@ use Rattle.vf_base.specs.declared.run.SaveKind.{SaveKind}
 use Rattle.vf_base.specs.declared.run.Ending.{Ending}
 use Rattle.vf_base.specs.declared.run.Ending.TheVariants.{Output}
 use Rattle.vf_machine.specs.declared.mark.Mark.TheVariants.{Ended}
-use Rattle.vf_machine.specs.Machine.{Machine, Move, go, stop}
+use Rattle.vf_machine.specs.Machine.{Move, go, stop}
 use Rattle.vf_machine.specs.Laws.{IsStimulus}
 use Rattle.vf_machine.specs.Run.{Moment, Turned, turn_of, free_turn, performed, cut_off, sight_at, saved_mark}
 use Rattle.vf_machine.specs.Writes.{IsChange}

@@ -1,4 +1,4 @@
-ghost use Rattle.std.specs.Prelude.{◌≡◌, ◌+◌, ◌-◌, ◌<◌, ◌≤◌, ◌^◌, ◌++◌, [], ◌∷◌, Some, None, slice_get, IfOk, if◌then◌else◌};
+ghost use Rattle.std.specs.Prelude.{◌≡◌, ◌-◌, ◌<◌, ◌≤◌, ◌^◌, [], ◌∷◌, Some, slice_get, IfOk, if◌then◌else◌};
 ghost use Rattle.vf_machine.specs.Run.{turn_of};
 ghost use Rattle.vf_design.specs.Program.{Program};
 ghost use Rattle.vf_design.specs.Step as defined;

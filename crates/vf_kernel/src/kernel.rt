@@ -1,6 +1,5 @@
-ghost use Rattle.std.specs.Prelude.{◌≡◌, ℕ, ◌+◌, ◌-◌, ◌<◌, ◌≤◌, ◌^◌, ◌++◌, [], None, length, nat_lt, slice_get, IfOk, if◌then◌else◌};
+ghost use Rattle.std.specs.Prelude.{◌≡◌, ◌-◌, ◌<◌, ◌^◌, length, nat_lt, IfOk};
 ghost use Rattle.vf_machine.specs.Run.{turn_of};
-ghost use Rattle.vf_machine.specs.Laws.{IsStimulus};
 ghost use Rattle.vf_design.specs.State as model;
 ghost use Rattle.vf_design.specs.State.{IsSound};
 ghost use Rattle.vf_design.specs.Words.{words_of, machine_of};
@@ -52,6 +51,7 @@ pub fn turn<W: Words>(
         turns: header.turns + 1,
         ..*header
     };
+    // A run that goes on from elsewhere may have written more than these limits allow.
     if limits.output < header.written {
         return ended(counted, Ending::Output, into);
     }

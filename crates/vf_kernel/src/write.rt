@@ -1,4 +1,4 @@
-ghost use Rattle.std.specs.Prelude.{◌≡◌, ◌+◌, ◌++◌, ◌∷◌, [], Option, IfOk};
+ghost use Rattle.std.specs.Prelude.{◌≡◌, ◌+◌, ◌++◌, ◌∷◌, [], IfOk};
 ghost use Rattle.vf_design.specs.declared.layout.TheConstants.{RUNNING, ACTIVE_HEAD, ACTIVE_TAIL, PROCESSES, PLACE, STATUS, VALUES, ONES, UNKNOWN};
 ghost use Rattle.vf_design.specs.Words as defined;
 ghost use Rattle.vf_kernel.specs.Changes.{change_at};

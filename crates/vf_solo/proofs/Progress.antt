@@ -11,7 +11,7 @@ use Rattle.vf_machine.specs.declared.mark.Mark.TheVariants as marks
 use Rattle.vf_machine.specs.Search.{count_below}
 use Rattle.vf_machine.specs.Run.{moment_at, text_at, turn_at, turn_of, mark_at, is_ending, words_at}
 use Rattle.vf_machine.specs.Pages.{page_count, is_touched, pages_touched, page_differs}
-use Rattle.vf_machine.specs.Writes.{IsChange, AllChange, written, writes_page}
+use Rattle.vf_machine.specs.Writes.{IsChange, written, writes_page}
 use Rattle.vf_machine.proofs.CallerLemmas.{NoneBelow, none_below_more, reads_once, moment_at-zero, moment_at-suc, text_at-zero, text_at-suc, turn-counts, changed_pages_lem, is_touched-zero, is_touched-suc, KeepsWithin, count_below-ext}
 use Rattle.vf_design.specs.declared.turn.Turn.{Turn}
 use Rattle.vf_design.specs.Program.{Program, IsWellFormed}

@@ -1,5 +1,4 @@
-use Rattle.std.proofs.Common.{◌≡◌, ◌*◌, ◌/◌, sym, ◌∙◌, ap, arith}
-use Rattle.vf_design.specs.Program.{page_count}
+use Rattle.std.proofs.Common.{sym, ◌∙◌}
 use Rattle.vf_design.proofs.Laid.{length-words_of}
 use Rattle.vf_design.proofs.design.Design.word_count.Goals as goal
 
