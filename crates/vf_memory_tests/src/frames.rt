@@ -24,9 +24,9 @@ fn frames_are_shared_and_counted(rt: HostRuntime) -> Result<(), Fail> {
     Ok(())
 }
 
-// A holder that gave all its frames back leaves its misses and nothing else; one that has a frame leaves it too.
+// A holder that gave its frame back leaves the other's frame as it was, and its own frame free.
 #[test]
-fn a_holder_is_joined_with_and_without_frames(rt: HostRuntime) -> Result<(), Fail> {
+fn a_holder_without_frames_is_joined(rt: HostRuntime) -> Result<(), Fail> {
     let (mut pool, mut hand) = PlainPool::new(rt.alloc(), 200)?;
     let own = pool.claim(&mut hand).ok_or("a free frame")?;
     let mut other = pool.open(&mut hand, 1)?;
@@ -34,12 +34,6 @@ fn a_holder_is_joined_with_and_without_frames(rt: HostRuntime) -> Result<(), Fai
     pool.release(&mut other, given);
     pool.join(&mut hand, other);
     assert!(rt; pool.look(&mut hand, own));
-
-    let mut third = pool.open(&mut hand, 1)?;
-    assert_eq!(rt; pool.claim(&mut third), Some(given));
-    pool.join(&mut hand, third);
-    assert!(rt; pool.look(&mut hand, own));
-    pool.release(&mut hand, own);
-    assert_eq!(rt; pool.claim(&mut hand), Some(own));
+    assert_eq!(rt; pool.claim(&mut hand), Some(given));
     Ok(())
 }

@@ -1,16 +1,15 @@
 -- Pages that are written where they are.
-use Rattle.std.proofs.Common.{◌≡◌, ◌≢◌, ℕ, ◌+◌, ◌/◌, ◌<◌, ◌≤◌, Bool, true, false, cond, ◌&&◌, ◌||◌, ◌==◌, List, [], ◌∷◌, ◌++◌, length, map, refl, sym, ap, ap₂, ◌∙◌, arith, eq-eqb, subst, ⊎_elim, ◌⊎◌}
+use Rattle.std.proofs.Common.{◌≡◌, ◌≢◌, ℕ, ◌+◌, ◌/◌, ◌≤◌, Bool, true, false, cond, ◌&&◌, ◌||◌, List, [], ◌∷◌, map, refl, sym, ap, ap₂, ◌∙◌, arith, ⊎_elim, ◌⊎◌}
 use Rattle.std.specs.Prelude.{Option, Some, None, is_none, slice_get}
-use Rattle.std.proofs.lemmas.Bool.{cases_eq, false_from_ne_true, or_left, or_right, or_cases}
-use Rattle.std.proofs.lemmas.List.{map-append, get_or_at}
-use Rattle.vf_frames.specs.Numbers.{has, rises}
-use Rattle.vf_pages.specs.Pages.{Page, pages_in, page_number, entry, IsSorted, IsPlace, page_limit}
-use Rattle.vf_pages.specs.Writes.{touches, written, after, address, own, beyond, AreWrites}
+use Rattle.std.proofs.lemmas.Bool.{cases_eq, false_from_ne_true}
+use Rattle.vf_frames.specs.Numbers.{rises}
+use Rattle.vf_pages.specs.Pages.{Page, pages_in, entry}
+use Rattle.vf_pages.specs.Writes.{touches, written, after, address, own, beyond}
 use Rattle.vf_pages.specs.InPlace.{in_place}
-use Rattle.vf_pages.proofs.Entries.{rises-parts, rises-less, rises-has, entry-here, entry-other}
+use Rattle.vf_pages.proofs.Entries.{rises-parts, entry-here, entry-other}
 use Rattle.vf_pages.proofs.Words.{touches-append, written-append, written-untouched, after-same}
 use Rattle.vf_pages.proofs.Groups.{own-append-beyond, AllOn-own, touches-AllOn}
-use Rattle.vf_pages.proofs.Progress.{first-beyond, first-touched}
+use Rattle.vf_pages.proofs.Progress.{first-beyond}
 use Rattle.vf_base.specs.declared.write.Write.{Write}
 
 pub in_place-off : (ws : List Write) (fresh : List Page) (e : Page) → touches e.page ws ≡ false → in_place ws fresh e ≡ e

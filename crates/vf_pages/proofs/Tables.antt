@@ -1,12 +1,12 @@
 -- Tables of places.
-use Rattle.std.proofs.Common.{◌≡◌, ◌≢◌, ℕ, zero, suc, ◌+◌, ◌*◌, ◌/◌, ◌<◌, ◌≤◌, Bool, true, false, cond, ◌||◌, ◌==◌, List, [], ◌∷◌, length, map, get_or, slice_index, slice_set, refl, sym, ap, ap₂, ◌∙◌, arith, eq-eqb, ne_eqb, eqb-true, subst, ⊎_elim, ◌⊎◌, replicate}
+use Rattle.std.proofs.Common.{◌≡◌, ◌≢◌, ℕ, zero, suc, ◌+◌, ◌*◌, ◌/◌, ◌<◌, ◌≤◌, Bool, true, false, ◌||◌, ◌==◌, List, [], ◌∷◌, length, map, get_or, slice_index, slice_set, refl, sym, ap, ap₂, ◌∙◌, arith, eq-eqb, ne_eqb, eqb-true, ⊎_elim, replicate}
 use Rattle.std.specs.Prelude.{Option, Some, None, is_some}
 use Rattle.std.proofs.lemmas.Bool.{cases_eq, cases_lt, or_cases, or_left, or_right, both_ways}
 use Rattle.std.proofs.lemmas.List.{get_or-set_other, get_or-set_same, get_or_past, get_or-replicate, length-replicate, length-set}
 use Rattle.vf_base.specs.declared.write.Write.{Write}
 use Rattle.vf_frames.specs.Numbers.{has, rises}
-use Rattle.vf_pages.specs.Pages.{Page, pages_in, entry, or_entry, IsSorted, IsPlace, page_limit}
-use Rattle.vf_pages.specs.Bases.{left_of, is_in_base}
+use Rattle.vf_pages.specs.Pages.{Page, pages_in, entry, or_entry, IsSorted, page_limit}
+use Rattle.vf_pages.specs.Bases.{left_of}
 use Rattle.vf_pages.specs.Writes.{touches, address}
 use Rattle.vf_pages.specs.Places.{IsTable}
 use Rattle.vf_pages.proofs.Entries.{rises-parts, rises-has, rises-from, rises-order, entry-here, entry-other}
@@ -123,8 +123,7 @@ filled-all count places pages sorted fits f = record {
       let same : at.0 ≡ i = omega (arith, told, here, h) in
       record { within = omega (arith, same, at.1, length-numbers pages); number = ap (slice_index (pages_in pages)) (sym same) ∙ at.2 };
   all = λ p i place.
-      let within : i < length (pages_in pages) = omega (arith, place.within, length-numbers pages) in
-      (
+      let within : i < length (pages_in pages) = omega (arith, place.within, length-numbers pages) in (
         omega (arith, f.long, fits p (ap (λ n. has n (pages_in pages)) (sym place.number) ∙ has-at (pages_in pages) i within)),
         ap (slice_index places) (sym place.number) ∙ f.done i place.within,
       );

@@ -1,7 +1,7 @@
 -- Pages that are written where they are, one by one.
 use Rattle.std.proofs.Common.{◌≡◌, ◌≢◌, ℕ, zero, suc, ◌+◌, ◌/◌, ◌<◌, ◌≤◌, true, false, cond, ◌==◌, List, [], ◌∷◌, ◌++◌, length, map, get_or, slice_index, slice_set, refl, sym, ap, ap₂, ◌∙◌, arith, subst, ⊎_elim}
-use Rattle.std.specs.Prelude.{Option, Some, None, slice_get}
-use Rattle.std.proofs.lemmas.Bool.{cases_eq, cases_lt, cases_order, false_from_ne_true, or_left, or_right, or_cases}
+use Rattle.std.specs.Prelude.{Some, None, slice_get}
+use Rattle.std.proofs.lemmas.Bool.{cases_eq, cases_lt, cases_order, false_from_ne_true}
 use Rattle.std.proofs.lemmas.Option.{same_Some, none-some}
 use Rattle.vf_base.specs.declared.write.Write.{Write}
 use Rattle.vf_frames.specs.Numbers.{rises}
@@ -17,7 +17,7 @@ use Rattle.vf_pages.proofs.Entries.{rises-parts, entry-here, entry-other, entry-
 use Rattle.vf_pages.proofs.Puts.{put-same, put-before, put-after}
 use Rattle.vf_pages.proofs.Frames.{entry-snoc, or_entry-none, none-other}
 use Rattle.vf_pages.proofs.Lookups.{set-is-put, held-place, page-number, length-pages, length-numbers, only-one}
-use Rattle.vf_pages.proofs.Progress.{first-touched, first-beyond, beyond-touched}
+use Rattle.vf_pages.proofs.Progress.{first-touched, first-beyond}
 use Rattle.vf_pages.proofs.InPlaces.{in_place-off, in_place-on, in_place-beyond, touches-beyond, after-own, map-above}
 use Rattle.vf_pages.proofs.Results.{in_place-page}
 

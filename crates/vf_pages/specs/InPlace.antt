@@ -1,5 +1,5 @@
 -- Pages that are written where they are.
-use Rattle.std.specs.Prelude.{◌≡◌, ◌≢◌, ℕ, cond, ◌&&◌, List, slice_get, slice_set, Some, is_none}
+use Rattle.std.specs.Prelude.{◌≡◌, ℕ, cond, ◌&&◌, List, slice_get, slice_set, Some, is_none}
 use Rattle.vf_base.specs.declared.write.Write.{Write}
 use Rattle.vf_pages.specs.declared.held.Held.{Held}
 use Rattle.vf_pages.specs.Pages.{Page, entry}

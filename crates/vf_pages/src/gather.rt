@@ -135,14 +135,7 @@ fn gather_page<F: Frames>(
     if pool.look(token, frame) {
         return take_page(held, place);
     }
-    add_fresh(
-        pool,
-        token,
-        page,
-        held[place].content.words(),
-        own,
-        fresh,
-    )
+    add_fresh(pool, token, page, held[place].content.words(), own, fresh)
 }
 
 /// Makes the content and claims the frame of each page that is new or whose frame is shared, and takes the

@@ -11,8 +11,8 @@ use Rattle.vf_pages.specs.Writes.{touches, written_pages}
 use Rattle.vf_pages.specs.Needs.{new_pages}
 use Rattle.vf_pages.specs.InPlace.{in_place}
 use Rattle.vf_pages.specs.Puts.{puts}
-use Rattle.vf_pages.specs.Places.{IsTable, AtHand}
-use Rattle.vf_pages.specs.Gathered.{Gathered, Short, Unmade, OnLack}
+use Rattle.vf_pages.specs.Places.{IsTable}
+use Rattle.vf_pages.specs.Gathered.{Gathered, OnLack}
 use Rattle.vf_pages.specs.Calls.{Wrote, WroteAmong, OnRefusal, IsShort, IsUnmade}
 use Rattle.vf_pages.proofs.Lookups.{length-pages}
 use Rattle.vf_pages.proofs.Results.{pages-in_place, frames-in_place, wrote, wrote-among}

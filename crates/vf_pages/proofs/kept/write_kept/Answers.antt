@@ -1,6 +1,6 @@
-use Rattle.std.proofs.Common.{◌≡◌, ℕ, ◌/◌, List, length, map, refl, sym, ap, ◌∙◌, subst, arith, ⊎_elim, inl, inr}
+use Rattle.std.proofs.Common.{ℕ, ◌/◌, length, map, sym, ap, ◌∙◌, subst, arith, ⊎_elim, inl, inr}
 use Rattle.vf_frames.specs.Numbers.{rises}
-use Rattle.vf_pages.specs.Pages.{pages_in, page_limit}
+use Rattle.vf_pages.specs.Pages.{page_limit}
 use Rattle.vf_pages.specs.Views.{pages_of, page_of}
 use Rattle.vf_pages.specs.Writes.{AllOn, address, touches}
 use Rattle.vf_pages.specs.InPlace.{in_place}

@@ -1,6 +1,4 @@
-use Rattle.std.proofs.Common.{◌≡◌, ℕ, List, get_or, slice_index, ap, ◌∙◌, ⊎_elim, replicate}
-use Rattle.std.proofs.lemmas.Bool.{cases_lt}
-use Rattle.std.proofs.lemmas.List.{get_or-replicate, get_or_past, length-replicate}
+use Rattle.std.proofs.Common.{ℕ, List, slice_index, ap, ◌∙◌}
 use Rattle.vf_pages.proofs.Tables.{get_or-zeros}
 use Rattle.vf_pages.proofs.places.empty_table.Goals as goal
 

@@ -1,4 +1,4 @@
-use Rattle.std.proofs.Common.{◌≡◌, ◌<◌, slice_index, slice_set, length, ap, ◌∙◌, arith, ⊎_elim}
+use Rattle.std.proofs.Common.{◌<◌, slice_index, slice_set, length, ap, ◌∙◌, arith, ⊎_elim}
 use Rattle.std.proofs.lemmas.Bool.{cases_eq, cases_lt}
 use Rattle.std.proofs.lemmas.List.{get_or-set_other, get_or-set_same, get_or_past, length-set}
 use Rattle.vf_pages.proofs.places.forget_places.Goals as goal

@@ -1,7 +1,5 @@
-use Rattle.std.proofs.Common.{List, sym, ◌∙◌, inr, subst}
+use Rattle.std.proofs.Common.{sym, ◌∙◌, inr}
 use Rattle.std.proofs.lemmas.Option.{none-some}
-use Rattle.vf_pages.specs.declared.held.Held.{Held}
-use Rattle.vf_pages.specs.Pages.{IsPlace, IsGap}
 use Rattle.vf_pages.specs.Views.{pages_of}
 use Rattle.vf_pages.proofs.Lookups.{no_page, entry-place, entry-gap}
 use Rattle.vf_pages.proofs.places.kept_place.Goals as goal

@@ -1,4 +1,4 @@
-use Rattle.std.proofs.Common.{◌≡◌, arith}
+use Rattle.std.proofs.Common.{arith}
 use Rattle.vf_pages.specs.Views.{pages_of}
 use Rattle.vf_pages.proofs.Lookups.{length-pages}
 use Rattle.vf_pages.proofs.Tables.{table-kept}

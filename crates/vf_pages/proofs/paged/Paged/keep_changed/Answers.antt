@@ -1,4 +1,4 @@
-use Rattle.std.proofs.Common.{◌≤◌, ap, arith}
+use Rattle.std.proofs.Common.{arith}
 use Rattle.vf_pages.specs.Views.{pages_of}
 use Rattle.vf_pages.proofs.Tables.{left-fits, table-fits}
 use Rattle.vf_pages.proofs.paged.Paged.keep_changed.Goals as goal
