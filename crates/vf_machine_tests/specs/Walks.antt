@@ -1,6 +1,5 @@
 -- What a walk keeps: its words are those of a sound state, and the header is theirs.
 use Rattle.std.specs.Prelude.{◌≡◌, ℕ, List, length, nat_lt}
-use Rattle.vf_design.specs.Program.{IsWellFormed}
 use Rattle.vf_design.specs.Turn.{HoldsState}
 use Rattle.vf_machine_tests.specs.declared.walk.Walk.TheInside.{Inside}
 
