@@ -117,19 +117,34 @@ fn many_pages_are_written_at_once(rt: HostRuntime) -> Result<(), Fail> {
     let mut paged = Paged::at_zero(alloc, &mut pool, &mut hand, zeros(alloc, 2560)?)?;
     paged.write_all(&mut pool, &on_even_pages(alloc, 20, 1)?)?;
     assert_eq!(rt;
-        (paged.pages(), paged.read(128), paged.read(64), paged.read(2432)),
+        (
+            paged.pages(),
+            paged.read(128),
+            paged.read(64),
+            paged.read(2432)
+        ),
         (20, 1, 0, 1)
     );
 
     paged.write_all(&mut pool, &on_each_page(alloc, 40, 2)?)?;
     assert_eq!(rt;
-        (paged.pages(), paged.read(64), paged.read(128), paged.read(2496)),
+        (
+            paged.pages(),
+            paged.read(64),
+            paged.read(128),
+            paged.read(2496)
+        ),
         (40, 2, 2, 2)
     );
     paged.write_all(&mut pool, &[set(65, 1)])?;
     paged.write_all(&mut pool, &on_each_page(alloc, 40, 3)?)?;
     assert_eq!(rt;
-        (paged.pages(), paged.read(65), paged.read(0), paged.read(2496)),
+        (
+            paged.pages(),
+            paged.read(65),
+            paged.read(0),
+            paged.read(2496)
+        ),
         (40, 1, 3, 3)
     );
     paged.give_back(&mut pool, &mut hand);
@@ -144,15 +159,9 @@ fn words_are_found_while_pages_come_between(rt: HostRuntime) -> Result<(), Fail>
     let mut paged = Paged::at_zero(alloc, &mut pool, &mut hand, zeros(alloc, 192)?)?;
     paged.write_all(&mut pool, &[set(130, 2)])?;
     paged.write_all(&mut pool, &[set(5, 3)])?;
-    assert_eq!(rt;
-        (paged.read(5), paged.read(70), paged.read(130)),
-        (3, 0, 2)
-    );
+    assert_eq!(rt; (paged.read(5), paged.read(70), paged.read(130)), (3, 0, 2));
     paged.write_all(&mut pool, &[set(70, 4), set(130, 5)])?;
-    assert_eq!(rt;
-        (paged.read(5), paged.read(70), paged.read(130)),
-        (3, 4, 5)
-    );
+    assert_eq!(rt; (paged.read(5), paged.read(70), paged.read(130)), (3, 4, 5));
     let count = paged.pages();
     assert_eq!(rt; count, 3);
     let (number, words) = paged.page(1);
@@ -173,7 +182,12 @@ fn a_short_call_leaves_earlier_pages(rt: HostRuntime) -> Result<(), Fail> {
         Err(PageRefusal::Short(2))
     );
     assert_eq!(rt;
-        (paged.read(3), paged.read(64), paged.pages(), paged.misses(&pool)),
+        (
+            paged.read(3),
+            paged.read(64),
+            paged.pages(),
+            paged.misses(&pool)
+        ),
         (30, 0, 1, 1)
     );
     paged.write_all(&mut pool, &[set(3, 32)])?;
