@@ -149,7 +149,7 @@ condition_is variable ts x h =
     subst (λ (y : Condition × Tokens). IsConditionAt variable ts y) same
     (record { test = test; is = condition_of variable b.0.0 operand.own made.0 (comparison_is b.0.0 e.0 e.1) operand.is; spelled = whole })
 
--- a statement's tokens and code, between those before and those behind
+-- a statement's tokens and code, between those before and those after
 pub record Reads (P : ℕ → Tokens → List Instr → Type 0) (front : List Instr) (ts : Tokens) (x : List Instr × Tokens) : Type 0 where
   pub own : Tokens
   pub code : List Instr
@@ -311,7 +311,7 @@ module _ (S : List Instr → Tokens → Read) (variable : List ℕ) (P : ℕ →
       let spelled = after_all_is (codes "(" ∷ codes "\"%c\"" ∷ codes "," ∷ variable ∷ codes ")" ∷ codes ";" ∷ []) ts x.1 p.0 in
       short_reads front _ (codes "$write" ∷ ts) (Show ∷ []) x (show refl refl) (ap (λ (us : Tokens). codes "$write" ∷ us) spelled) p.1
 
-  -- the string in parentheses, and the instruction behind it
+  -- the string in parentheses, and the instruction after it
   saved : (instr : Instr) (front : List Instr) (ts : Tokens) (x : List Instr × Tokens) → save_at instr front ts ≡ Some x
       → (name : List ℕ) × (ts ≡ codes "(" ∷ (34 ∷ name) ∷ codes ")" ∷ codes ";" ∷ x.1) × (x.0 ≡ front ++ instr ∷ [])
   unfolding save_at

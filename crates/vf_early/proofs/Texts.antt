@@ -69,7 +69,7 @@ at_blank b rest (t ∷ ts) h given =
 pub behind_token : (token rest : List ℕ) (tokens : List (List ℕ)) → IsToken token rest → IsTokens rest tokens → IsTokens (token ++ rest) (token ∷ tokens)
 behind_token token rest tokens is given = ([], rest, refl, is, refl, given)
 
--- the tokens of a text that begins with no blank: the one that is measured, and those behind it
+-- the tokens of a text that begins with no blank: the one that is measured, and those after it
 pub record Splits (bytes : List ℕ) (tokens : List (List ℕ)) (n : ℕ) : Type 0 where
   pub some : 0 < n
   pub others : List (List ℕ)

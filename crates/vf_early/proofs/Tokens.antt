@@ -45,7 +45,7 @@ measured token (b ∷ rest) (assign ends e) = rw (e, ne_eqb b 61 ends) refl
 
 -- ---- what is measured is a token of the grammar
 
--- the front that is a run, and the rest behind it
+-- the front that is a run, and the rest after it
 record IsRun (bytes : List ℕ) (n : ℕ) : Type 0 where
   within : n ≤ length bytes
   run : list_all is_word_byte (take n bytes) ≡ true

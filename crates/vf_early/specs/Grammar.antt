@@ -42,7 +42,7 @@ unfoldable pub IsStatement : List ℕ → ℕ → ℕ → List (List ℕ) → Li
 IsStatement variable zero base tokens code = ⊥
 IsStatement variable (suc depth) base tokens code = IsStatementOver (IsStatement variable depth) variable base tokens code
 
--- the whole text: one module with one integer and one process, which halts behind its statement
+-- the whole text: one module with one integer and one process, which halts after its statement
 pub record IsSource (tokens : List (List ℕ)) (top variable : List ℕ) (code : List Instr) : Type 0 where
   pub inner : List (List ℕ)
   pub body : List Instr

@@ -59,17 +59,17 @@ token_length (b ∷ rest) = if is_word_byte b then 1 + length (take_while is_wor
 abbrev pub Tokens : Type 0
 Tokens = List (List ℕ)
 
--- the tokens behind the one that is wanted
+-- the tokens after the one that is wanted
 unfoldable pub after : List ℕ → Tokens → Option Tokens
 after word [] = None
 after word (first ∷ rest) = if bytes_eq first word then Some rest else None
 
--- the tokens behind all that are wanted, one after the other
+-- the tokens after all that are wanted, one after the other
 unfoldable pub after_all : Tokens → Tokens → Option Tokens
 after_all [] tokens = Some tokens
 after_all (word ∷ words) tokens = after word tokens >>= λ rest. after_all words rest
 
--- the first token, and those behind it
+-- the first token, and those after it
 abbrev pub next : Tokens → Option (List ℕ × Tokens)
 next [] = None
 next (first ∷ rest) = Some (first, rest)
@@ -159,7 +159,7 @@ module _ (statement : List Instr → Tokens → Read) (variable : List ℕ) wher
   block_from zero code tokens = None
   block_from (suc n) code tokens = ended_or code (after (codes "end") tokens) (statement code tokens >>= λ x. block_from n x.0 x.1)
 
-  -- a condition, and a statement behind its jump
+  -- a condition, and a statement after its jump
   unfoldable pub guarded_at : List Instr → Tokens → Option (Condition × List Instr × Tokens)
   guarded_at code tokens = do
     c ← condition_at variable tokens
@@ -210,12 +210,12 @@ header_at tokens = do
   c ← after_all (codes ";" ∷ codes "initial" ∷ []) variable.1
   Some (top.0, variable.0, c)
 
--- nothing behind the last token
+-- nothing after the last token
 abbrev pub ended : Tokens → Option (Unit {0})
 ended [] = Some tt
 ended (first ∷ rest) = None
 
--- the code behind which the process halts, where nothing stands behind `endmodule`
+-- the code after which the process halts, where nothing stands after `endmodule`
 unfoldable pub closed_at : List Instr → Tokens → Option (List Instr)
 closed_at code tokens = do
   rest ← after (codes "endmodule") tokens

@@ -19,7 +19,7 @@ const MOST_CODE: usize = 65_536;
 /// How deep statements nest at most.
 const MOST_DEPTH: u32 = 200;
 
-/// The tokens behind the one that is wanted, where it stands in front.
+/// The tokens after the one that is wanted, where it stands in front.
 #[tactic(auto, unfolding(crate::specs::Reading::after))]
 fn strip<'a>(word: &[u8], tokens: &'a [Text]) -> Option<&'a [Text]>
     ensures { option_map (λ rest. rest.now) result ≡ after word.now tokens.now }
@@ -30,7 +30,7 @@ fn strip<'a>(word: &[u8], tokens: &'a [Text]) -> Option<&'a [Text]>
     }
 }
 
-/// The tokens behind the one that is wanted.
+/// The tokens after the one that is wanted.
 fn after<'a>(word: &[u8], tokens: &'a [Text]) -> Result<&'a [Text], EarlyFault>
     ensures { Gives (λ rest. rest.now) result (after word.now tokens.now) }
 {
@@ -40,7 +40,7 @@ fn after<'a>(word: &[u8], tokens: &'a [Text]) -> Result<&'a [Text], EarlyFault>
     }
 }
 
-/// The first token, and those behind it.
+/// The first token, and those after it.
 fn next(tokens: &[Text]) -> Result<(&Text, &[Text]), EarlyFault>
     ensures { Gives (λ x. (x.0.now, x.1.now)) result (next tokens.now) }
 {
@@ -72,7 +72,7 @@ fn number_at(alloc: Global, tokens: &[Text]) -> Result<(u32, &[Text]), EarlyFaul
     Ok((value, rest))
 }
 
-/// The tokens behind a string.
+/// The tokens after a string.
 #[tactic(auto, unfolding(crate::specs::Reading::string_after))]
 fn string(tokens: &[Text]) -> Result<&[Text], EarlyFault>
     ensures { Gives (λ rest. rest.now) result (string_after tokens.now) }
@@ -84,7 +84,7 @@ fn string(tokens: &[Text]) -> Result<&[Text], EarlyFault>
     }
 }
 
-/// The number behind a minus, as 32 bits in two's complement.
+/// The number after a minus, as 32 bits in two's complement.
 #[tactic(auto, unfolding(crate::specs::Reading::minus_at))]
 fn minus(alloc: Global, tokens: &[Text]) -> Result<(u32, &[Text]), EarlyFault>
     ensures { Gives (λ x. (x.0, x.1.now)) result (minus_at tokens.now) }
@@ -151,7 +151,7 @@ fn emit(code: &mut Vec<Instr>, instr: Instr) -> Result<(), EarlyFault>
     Ok(())
 }
 
-/// The read of a byte behind its variable.
+/// The read of a byte after its variable.
 #[tactic(auto, unfolding(crate::specs::Reading::getc_at, crate::specs::Reading::after_all))]
 fn getc<'a>(tokens: &'a [Text], code: &mut Vec<Instr>) -> Result<&'a [Text], EarlyFault>
     ensures value { Gives (λ rest. (code.new.items, rest.now)) result (getc_at code.old.items tokens.now) }
@@ -247,7 +247,7 @@ fn block<'a>(
     Err(EarlyFault::NotBuilt)
 }
 
-/// A condition, and a statement behind the jump over it, whose place is not known yet.
+/// A condition, and a statement after the jump over it, whose place is not known yet.
 #[cycle(statements)]
 #[tactic(auto, unfolding(crate::specs::Reading::guarded_at))]
 fn guarded<'a>(
@@ -346,7 +346,7 @@ fn nested<'a>(
     }
 }
 
-/// A statement at most so deep: its code is added, and the tokens behind it are returned.
+/// A statement at most so deep: its code is added, and the tokens after it are returned.
 #[cycle(statements)]
 #[tactic(auto, using(crate::proofs::Depth::statement_never, crate::proofs::Depth::statement_deeper))]
 fn statement<'a>(
@@ -381,7 +381,7 @@ fn header(tokens: &[Text]) -> Result<(&Text, &Text, &[Text]), EarlyFault>
     Ok((top, variable, rest))
 }
 
-/// The end of the module: nothing stands behind it, and the process halts.
+/// The end of the module: nothing stands after it, and the process halts.
 #[tactic(auto, unfolding(crate::specs::Reading::closed_at))]
 fn close(tokens: &[Text], code: &mut Vec<Instr>) -> Result<(), EarlyFault>
     ensures { Gives (λ _. code.new.items) result (closed_at code.old.items tokens.now) }

@@ -108,7 +108,7 @@ node d tree n rest = if nat_le n (d + 1) then Some (tree, n, rest) else None
 
 -- inner reads an expression of a level
 module _ (inner : ℕ → Tokens → Read TreeExpr) where
-  -- the expressions after a comma each, behind those that were read
+  -- the further expressions, each after a comma
   unfoldable pub more_from : ℕ → List TreeExpr → ℕ → Tokens → Read (List TreeExpr)
   more_from zero es n ts = Some (es, n, ts)
   more_from (suc f) es n ts = found_or (after (codes ",") ts) (λ us. inner 1 us >>= λ x. more_from f (es ++ x.0 ∷ []) (max n x.1) x.2) (Some (es, n, ts))

@@ -87,7 +87,7 @@ fn node(depth: u32, tree: TreeExpr, deep: u32, rest: &[Token]) -> Read<'_, TreeE
     Ok((tree, deep, rest))
 }
 
-/// The expressions after a comma each, behind the first one.
+/// The further expressions, each after a comma.
 #[cycle(expressions)]
 #[tactic(auto, unfolding(crate::specs::Reading::more_from))]
 fn more<'a>(

@@ -85,8 +85,8 @@ impl<F: Frames> Sim<F> {
     ghost use Rattle.vf_image.specs.Calls.{Advanced, Stayed};
     ghost use Rattle.vf_image.specs.Images.{Serves, IsBaseOf, HasBase, ForkedFrom, base_holders};
 
-    /// The run of a job at time zero, with one of the parts of `from`. After want of memory all is as it
-    /// was.
+    /// The run of a job at time zero, with one of the parts of `from`. Where it is out of memory all is as
+    /// it was.
     pub fn at_zero(
         alloc: Global,
         pool: &mut F,
@@ -128,7 +128,7 @@ impl<F: Frames> Sim<F> {
 
     /// The run of a job from an image on, which stands on the way to the job's node and whose counts fit
     /// the job's limits. An image that has only the pages that its base has not needs the base. The
-    /// simulator shares their pages and has one of the parts of `from`. After want of memory all is as
+    /// simulator shares their pages and has one of the parts of `from`. Where it is out of memory all is as
     /// it was; it is answered too where both have a frame in common.
     pub fn from_image(
         alloc: Global,

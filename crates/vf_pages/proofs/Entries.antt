@@ -23,7 +23,7 @@ rises-less low high limit (x ∷ xs) h r =
     rises-from low limit x xs (omega (arith, parts.0)) parts.1 parts.2
 
 -- so many numbers fit below the limit
--- a number at or above the bound of the others stands behind them
+-- a number at or above the bound of the others stands after them
 pub rises-behind : (low limit above x : ℕ) (xs : List ℕ) → rises low limit xs ≡ true → low ≤ limit → limit ≤ x → x < above → rises low above (xs ++ x ∷ []) ≡ true
 rises-behind low limit above x [] r h k l = rises-from low above x [] (omega arith) l refl
 rises-behind low limit above x (y ∷ ys) r h k l =

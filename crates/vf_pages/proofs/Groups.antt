@@ -48,7 +48,7 @@ touches-from low limit q (w ∷ ws) r h =
     (λ e. omega (arith, parts.0, touches-from (w.at + 1) limit q ws parts.2 e))
     (or_cases (q == w.at / 64) (touches q ws) h)
 
--- what is left behind the writes of page p falls on later pages
+-- what is left after the writes of page p falls on later pages
 pub beyond-later : (p low limit : ℕ) (ws : List Write) → rises low limit (map address ws) ≡ true → p ≤ low / 64 → (q : ℕ) → touches q (beyond p ws) ≡ true → p < q
 beyond-later p low limit [] r h q t = absurd (cc)
 beyond-later p low limit (w ∷ ws) r h q t =

@@ -29,7 +29,7 @@ in_place-same : (xs ys : List Write) (fresh : List Page) (e : Page) → touches 
 in_place-same xs ys fresh e h k =
     ap₂ (λ b (ws : List ℕ). cond (b && is_none (entry e.page fresh)) (record { page = e.page; frame = e.frame; words = ws }) e) h k
 
--- pages other than p see the writes behind those of page p alone
+-- pages other than p see the writes after those of page p alone
 pub touches-beyond : (p q : ℕ) (ws : List Write) → q ≢ p → touches q ws ≡ touches q (beyond p ws)
 touches-beyond p q ws ne =
     ap (touches q) (sym (own-append-beyond p ws)) ∙ touches-append q (own p ws) (beyond p ws)

@@ -67,7 +67,7 @@ first-touched (w ∷ ws) f h =
     let same : f ≡ w = same_Some f w h in
     or_left (f.at / 64 == w.at / 64) (touches (f.at / 64) ws) (eq-eqb (f.at / 64) (w.at / 64) (ap (λ (x : Write). x.at / 64) same))
 
--- what comes behind the first page was there before
+-- what comes after the first page was there before
 pub beyond-touched : (p q : ℕ) (ws : List Write) → touches q (beyond p ws) ≡ true → touches q ws ≡ true
 beyond-touched p q ws t =
     ap (touches q) (sym (own-append-beyond p ws)) ∙ touches-append q (own p ws) (beyond p ws) ∙ or_right (touches q (own p ws)) (touches q (beyond p ws)) t

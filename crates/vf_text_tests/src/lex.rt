@@ -289,7 +289,7 @@ fn nests_sixteen_uses(rt: HostRuntime) -> Result<(), Fail> {
     Ok(())
 }
 
-/// So many signs, each behind a blank.
+/// So many signs, each after a blank.
 fn signs(alloc: Global, count: u32) -> Result<Vec<u8>, AllocError> {
     let mut text = Vec::new(alloc);
     for _ in 0..count {

@@ -18,7 +18,7 @@ fn length_of(alloc: Global, text: &[u8]) -> usize {
     }
 }
 
-/// A word, and bytes behind it.
+/// A word, and bytes after it.
 fn named(alloc: Global, word: &[u8], bytes: &[u8]) -> Result<Vec<u8>, AllocError> {
     let mut shown = Vec::from_slice(alloc, word)?;
     shown.extend_from_slice(bytes)?;

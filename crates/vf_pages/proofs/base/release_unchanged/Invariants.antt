@@ -5,7 +5,7 @@ use Rattle.vf_pages.specs.Views.{pages_of}
 use Rattle.vf_pages.proofs.Bases.{Released_so_far}
 use Rattle.vf_pages.proofs.base.release_unchanged.Given as goal
 
--- the token has the frames of the pages kept so far and of those behind them
+-- the token has the frames of the pages kept so far and of those after them
 abbrev pub invariant-loop-one : goal.invariant-loop-one
 invariant-loop-one g l = record {
   frames : Released_so_far (pages_of l.base) (pages_of l.held) (pages_of l.rest) (g.F.Frames.seen l.token).frames;
