@@ -31,7 +31,7 @@ pub enum PlanKind {
     #[error("a text of hex digits is malformed")]
     BadHex = 7,
     /// No node is a test.
-    #[error("no node is a test")]
+    #[error("the plan has no tests")]
     NoTest = 8,
     /// More than 64 nodes are on the path from the root to the node.
     #[error("too many nodes are on the path")]
