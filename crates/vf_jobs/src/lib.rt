@@ -13,5 +13,5 @@ mod limits;
 mod setup;
 mod subtree;
 
-pub use setup::{Order, Setup, limits_of};
+pub use setup::{MOST_BUDGET, Order, Setup, limits_of};
 pub use subtree::is_below;

@@ -12,6 +12,9 @@ use vf_base::{Job, Limits, Memory};
 use vf_design::{Design, words_at_zero};
 use vf_plan::Plan;
 
+/// The highest page budget of a setup.
+pub const MOST_BUDGET: u32 = 1_048_576;
+
 /// Which image is given back first where frames are wanted.
 #[derive(Clone, Copy, Debug, PartialEq, Eq)]
 pub enum Order {
@@ -63,7 +66,7 @@ impl Setup {
         order: Order,
     ) -> Result<Setup, Memory>
         requires limits { IsInRange limits }
-        requires budget { (1 ≤ budget) × (budget ≤ 1048576) }
+        requires budget { (1 ≤ budget) × (budget ≤ MOST_BUDGET) }
         ensures { IfOk result (λ setup. setup ≡ record {
           design = design;
           plan = plan;

@@ -4,6 +4,7 @@ use Rattle.std.specs.Char.{is_ascii_alphabetic, is_ascii_alphanumeric}
 use Rattle.std.specs.List.{list_all}
 use Rattle.std.specs.Str.{byte, bytes_eq}
 use Rattle.serde_json.specs.Data.{Data, object, Members, no_members, member}
+use Rattle.vf_plan.specs.declared.limits.TheConstants.{LONGEST_NAME, MOST_TURNS, MOST_OUTPUT}
 use Rattle.vf_plan.specs.declared.json.Keys.{Keys}
 use Rattle.vf_plan.specs.declared.json.Keys.TheVariants.{Plan, Node, LimitedTest}
 use Rattle.serde_json.specs.Find.{get, as_bool, as_number, as_str, as_u64}
@@ -44,7 +45,7 @@ is_name_byte b = is_ascii_alphanumeric b || b == byte "_" || b == byte "." || b 
 -- 1 to 64 bytes of ASCII letters, digits, `_`, `.` and `-`, of which a letter is the first
 unfoldable pub is_name : List ℕ → Bool
 is_name [] = false
-is_name (first ∷ more) = is_ascii_alphabetic first && nat_lt (length more) 64 && list_all is_name_byte more
+is_name (first ∷ more) = is_ascii_alphabetic first && nat_lt (length more) LONGEST_NAME && list_all is_name_byte more
 
 -- ---- what stands at a key: a text, or what may be left out. None is another form
 
@@ -97,8 +98,8 @@ pub record Marks : Type 0 where
 -- only a test of version 2 has limits
 abbrev pub limits_in : Bool → Data → Option Marks
 limits_in true node = do
-  turns ← whole_in 1 4294967296 (get (codes "turns") node)
-  output ← whole_in 0 262144 (get (codes "output") node)
+  turns ← whole_in 1 MOST_TURNS (get (codes "turns") node)
+  output ← whole_in 0 MOST_OUTPUT (get (codes "output") node)
   Some (record { test = true; turns = turns; output = output })
 limits_in false node = Some (record { test = false; turns = None; output = None })
 

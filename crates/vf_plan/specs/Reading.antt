@@ -7,6 +7,7 @@ use Rattle.serde_json.specs.Data.{Data, Items, no_items, item}
 use Rattle.serde_json.specs.Find.{get, as_array, as_number, as_u64}
 use Rattle.serde_json.specs.Read.{read}
 use Rattle.vf_base.specs.declared.names.NodeNo.{NodeNo}
+use Rattle.vf_plan.specs.declared.limits.TheConstants.{MOST_NODES, MOST_DEPTH, LONGEST_SEGMENT, LONGEST_PATH, LONGEST_EXPECTATION}
 use Rattle.vf_plan.specs.declared.fault.PlanFault.{PlanFault}
 use Rattle.vf_plan.specs.declared.fault.PlanKind.{PlanKind}
 use Rattle.vf_plan.specs.declared.fault.PlanKind.TheVariants.{NotJson, Shape, DuplicateName, UnknownParent, TooMany, TooLong, BadHex, NoTest, TooDeep}
@@ -56,12 +57,12 @@ placed before name after = if is_some (node_named name before) then Err Duplicat
 
 abbrev pub is_long : Option (List ℕ) → Bool
 is_long None = false
-is_long (Some bytes) = nat_lt 262144 (length bytes)
+is_long (Some bytes) = nat_lt LONGEST_EXPECTATION (length bytes)
 
 abbrev pub if_within : Node → PathSize → Result Node PlanKind
 if_within node path =
-    if nat_lt 65536 (length node.segment) || (nat_lt 1048576 path.bytes || is_long node.expect) then Err TooLong
-    else if nat_lt 64 path.nodes then Err TooDeep
+    if nat_lt LONGEST_SEGMENT (length node.segment) || (nat_lt LONGEST_PATH path.bytes || is_long node.expect) then Err TooLong
+    else if nat_lt MOST_DEPTH path.nodes then Err TooDeep
     else Ok node
 
 -- the node, where it is not too long and not too deep
@@ -119,7 +120,7 @@ pub record Outline : Type 0 where
 abbrev pub if_some : ℕ → Items → Result Outline PlanKind
 if_some version values =
     if not (version == 1 || version == 2) || items_len values == 0 then Err Shape
-    else if nat_lt 4096 (items_len values) then Err TooMany
+    else if nat_lt MOST_NODES (items_len values) then Err TooMany
     else Ok (record { version = version; values = values })
 
 abbrev pub outline_with : Option ℕ → Option Items → Result Outline PlanKind

@@ -7,16 +7,8 @@ ghost use Rattle.vf_plan.specs.Form.{is_name_byte, is_name, texts_of, has_limits
 ghost use Rattle.vf_plan.specs.Seen.{texts_seen, marks_seen};
 
 use crate::json::{Keys, has_only, text_at, text_in, truth_in, whole_in};
+use crate::limits::{LONGEST_NAME, MOST_OUTPUT, MOST_TURNS};
 use serde_json::Value;
-
-/// How long a name may be, in bytes.
-const LONGEST_NAME: usize = 64;
-
-/// The highest limit on turns.
-const MOST_TURNS: u64 = 4294967296;
-
-/// The highest limit on bytes written.
-const MOST_OUTPUT: u64 = 262144;
 
 /// The texts that a node writes.
 #[derive(Clone, Copy)]

@@ -8,6 +8,7 @@
 mod fault;
 mod form;
 mod json;
+pub mod limits;
 mod plan;
 mod read;
 mod reader;

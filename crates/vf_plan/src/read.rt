@@ -7,6 +7,7 @@ ghost use Rattle.vf_plan.specs.Reading.{decoded, segment_of, expect_of, node_aft
 
 use crate::form::form_of;
 use crate::json::{Keys, has_only, list_at, read_bytes, whole_at};
+use crate::limits::MOST_NODES;
 use crate::plan::{Node, Plan};
 use crate::reader::Reader;
 use crate::{PlanFault, PlanKind};
@@ -14,9 +15,6 @@ use hex::FromHexError;
 use serde_json::Value;
 use std::alloc::Global;
 use vf_base::Text;
-
-/// How many nodes a plan may have.
-const MOST_NODES: usize = 4096;
 
 fn copied(alloc: Global, text: &str) -> Result<Text, PlanKind>
     ensures ok { IfOk result (λ copy. copy ≡ text.now) }
@@ -83,7 +81,7 @@ fn node_after(alloc: Global, version: u64, reader: &Reader, value: &Value) -> Re
 
 /// The fault of a node; that memory ran out is no fault of a node.
 fn fault_at(kind: PlanKind, node: usize) -> PlanFault
-    requires { node < 4096 }
+    requires { node < MOST_NODES }
     ensures kind { result.kind ≡ kind }
     ensures node { kind ≢ kinds.Memory → result.node ≡ Some node }
     ensures memory { kind ≡ kinds.Memory → result.node ≡ None }
@@ -105,7 +103,7 @@ fn with_next(
     reader: Reader,
     value: &Value,
 ) -> Result<Reader, PlanFault>
-    requires { length reader < 4096 }
+    requires { length reader < MOST_NODES }
     ensures next { Reads (λ nodes. nodes) result (with_next version reader (view value.now)) }
     ensures length { IfOk result (λ nodes. length nodes ≡ length reader + 1) }
     ensures memory { IfErr result (λ fault. fault.kind ≡ kinds.Memory → fault.node ≡ None) }
@@ -118,7 +116,7 @@ fn with_next(
 }
 
 fn read_nodes(alloc: Global, version: u64, values: &[Value]) -> Result<Reader, PlanFault>
-    requires { length values.now ≤ 4096 }
+    requires { length values.now ≤ MOST_NODES }
     ensures nodes { Reads (λ nodes. nodes) result (nodes_after version [] (items_view values.now)) }
     ensures length { IfOk result (λ nodes. length nodes ≡ length values.now) }
     ensures memory { IfErr result (λ fault. fault.kind ≡ kinds.Memory → fault.node ≡ None) }
@@ -139,7 +137,7 @@ fn outline_of(value: &Value) -> Result<(u64, &Vec<Value>), PlanKind>
     ensures outline { Gives (λ outline. record { version = outline.0; values = items_view outline.1.now.items }) result
         (outline_of (view value.now)) }
     ensures some { IfOk result (λ outline. 0 < length outline.1.now.items) }
-    ensures most { IfOk result (λ outline. length outline.1.now.items ≤ 4096) }
+    ensures most { IfOk result (λ outline. length outline.1.now.items ≤ MOST_NODES) }
     ensures memory { IfErr result (λ kind. kind ≢ kinds.Memory) }
 {
     if !has_only(value, Keys::Plan) {

@@ -8,24 +8,13 @@ ghost use Rattle.vf_plan.specs.Paths.{no_path, at_parent, path_sizes, path_to};
 ghost use Rattle.vf_plan.specs.Reading.{node_named, placed, is_long, bounded, if_tested};
 ghost use Rattle.vf_plan.specs.Rules.{IsNodeAfter};
 
+use crate::limits::{LONGEST_EXPECTATION, LONGEST_PATH, LONGEST_SEGMENT, MOST_DEPTH, MOST_NODES};
 use crate::plan::{Node, PathSize, Plan};
 use crate::{PlanFault, PlanKind};
 use indexmap::IndexSet;
 use std::alloc::Global;
 use std::marker::Model;
 use vf_base::{NodeNo, Text};
-
-/// How long a segment may be, in bytes.
-const LONGEST_SEGMENT: usize = 65536;
-
-/// How many bytes the segments of a path may have.
-const LONGEST_PATH: usize = 1048576;
-
-/// How long an expectation may be, in bytes.
-const LONGEST_EXPECTATION: usize = 262144;
-
-/// How many nodes a path may have.
-const DEEPEST: usize = 64;
 
 /// The nodes so far, their names in the same order, and the sizes of the paths to them.
 #[derive(Drop)]
@@ -78,7 +67,7 @@ impl Reader {
     fn find(&self, name: &str) -> Option<usize>
         ensures number { result ≡ node_named name.now self.now }
         ensures within { IfSome result (λ n. n < length self.now) }
-        ensures few { length self.now ≤ 4096 }
+        ensures few { length self.now ≤ MOST_NODES }
     {
         self.names.get_index_of(name.as_bytes())
     }
@@ -106,7 +95,7 @@ impl Reader {
     fn path_at(&self, parent: Option<NodeNo>) -> PathSize
         requires { IfSome parent (λ p. p.0 < length self.now) }
         ensures path { result ≡ at_parent no_path (path_sizes self.now) parent }
-        ensures small { (result.nodes ≤ 64) × (result.bytes ≤ 1048576) }
+        ensures small { (result.nodes ≤ MOST_DEPTH) × (result.bytes ≤ LONGEST_PATH) }
     {
         let Some(parent) = parent else {
             return PathSize { nodes: 0, bytes: 0 };
@@ -139,7 +128,7 @@ impl Reader {
         {
             return Err(PlanKind::TooLong);
         }
-        if path.nodes > DEEPEST {
+        if path.nodes > MOST_DEPTH {
             return Err(PlanKind::TooDeep);
         }
         Ok(node)
@@ -148,7 +137,7 @@ impl Reader {
     /// Adds a node after those read so far.
     pub(crate) fn with(self, alloc: Global, node: Node) -> Result<Reader, PlanKind>
         requires fits { IsNodeAfter self node }
-        requires few { length self < 4096 }
+        requires few { length self < MOST_NODES }
         ensures ok { IfOk result (λ reader. reader ≡ self ++ node ∷ []) }
         ensures length { IfOk result (λ reader. length reader ≡ length self + 1) }
         ensures err { IfErr result (λ kind. kind ≡ kinds.Memory) }

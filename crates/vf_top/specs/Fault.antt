@@ -2,6 +2,7 @@
 use Rattle.std.specs.Prelude.{ℕ, ◌+◌, ◌^◌, List, [], ◌∷◌, ◌++◌, Option, Some, None, codes, decimal}
 use Rattle.vf_plan.specs.declared.fault.PlanKind.{PlanKind}
 use Rattle.vf_plan.specs.declared.fault.PlanKind.TheVariants as kinds
+use Rattle.vf_top.specs.declared.limits.TheConstants.{LONGEST_DESIGN, LONGEST_PLAN}
 use Rattle.vf_top.specs.declared.refusal.What.{What}
 use Rattle.vf_top.specs.declared.refusal.What.TheVariants.{Design, Plan}
 use Rattle.vf_top.specs.declared.refusal.Refusal.{Refusal}
@@ -9,8 +10,8 @@ use Rattle.vf_top.specs.declared.refusal.Refusal.TheVariants.{Words, Failed, Too
 
 -- the most bytes of a design's file, 1 MiB, and of a plan's, 64 MiB
 abbrev pub limit_of : What → ℕ
-limit_of Design = 2 ^ 20
-limit_of Plan = 2 ^ 26
+limit_of Design = LONGEST_DESIGN
+limit_of Plan = LONGEST_PLAN
 
 abbrev pub what_text : What → List ℕ
 what_text Design = codes "design"

@@ -11,19 +11,20 @@ use Rattle.vf_plan.specs.declared.plan.Node.{Node}
 use Rattle.vf_jobs.specs.Kinds as kinds
 use Rattle.vf_jobs.specs.Limits.{limits_of}
 use Rattle.vf_plan.specs.Paths.{joined}
+use Rattle.vf_top.specs.declared.limits.TheConstants.{TURNS, OUTPUT, BUDGET, SLOTS}
 use Rattle.vf_report.specs.Tested.{Tested}
 use Rattle.vf_report.specs.Totals.{Totals, summary_of}
 use Rattle.vf_report.specs.Texts.{test_text, summary_text}
 
 -- the limits of a test that has none of its own, the event slots of a design, and the budget in pages
 abbrev pub default_limits : Limits
-default_limits = record { turns = 1000000; output = 65536 }
+default_limits = record { turns = TURNS; output = OUTPUT }
 
 abbrev pub default_slots : ℕ
-default_slots = 1024
+default_slots = SLOTS
 
 abbrev pub default_budget : ℕ
-default_budget = 65536
+default_budget = BUDGET
 
 -- the job that finishes the plan's only test
 abbrev pub only_job : Job

@@ -5,15 +5,13 @@ ghost use Rattle.vf_plan.specs.Reading.{plan_of};
 ghost use Rattle.vf_top.specs.Steps.{Fetched, Accepts, BuildsDesign, ReadsTest};
 ghost use Rattle.vf_top.specs.Words.{files_of, begins_with_dash};
 
+use crate::limits::{LONGEST_DESIGN, SLOTS};
 use crate::refusal::{Refusal, What};
 use std::alloc::Global;
 use vf_design::Design;
 use vf_early::{EarlyFault, early_design};
 use vf_plan::{Plan, PlanKind, read_plan};
 use vf_ports::{Shelf, ShelfRefusal};
-
-/// How many event slots a design has.
-pub const SLOTS: u32 = 1024;
 
 /// The names of the design's file and the plan's.
 pub fn files_in(words: &[String]) -> Option<(&str, &str)>
@@ -57,7 +55,7 @@ fn fetch<S: Shelf>(alloc: Global, shelf: &mut S, name: &str, what: What) -> Resu
 
 /// The design that the bytes spell.
 fn design_in(alloc: Global, bytes: &[u8]) -> Result<Design, Refusal>
-    requires { length bytes.now ≤ 2 ^ 20 }
+    requires { length bytes.now ≤ LONGEST_DESIGN }
     ensures { BuildsDesign bytes.now result }
 {
     match early_design(alloc, bytes, SLOTS) {

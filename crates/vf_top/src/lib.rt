@@ -9,6 +9,7 @@
 
 mod accept;
 mod command;
+mod limits;
 mod refusal;
 mod report;
 

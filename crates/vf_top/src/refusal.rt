@@ -1,6 +1,7 @@
 ghost use Rattle.std.specs.Prelude.{◌≡◌, ◌++◌, IfOk, IfErr, OnOk};
 ghost use Rattle.vf_top.specs.Fault.{fault_text, kind_text, node_text, status_of, limit_of};
 
+use crate::limits::{LONGEST_DESIGN, LONGEST_PLAN};
 use std::alloc::Global;
 use thiserror::Error;
 use vf_base::{Memory, write_decimal};
@@ -49,8 +50,8 @@ impl What {
         ensures { result ≡ limit_of self }
     {
         match self {
-            What::Design => 1 << 20,
-            What::Plan => 1 << 26,
+            What::Design => LONGEST_DESIGN,
+            What::Plan => LONGEST_PLAN,
         }
     }
 

@@ -8,6 +8,7 @@ ghost use Rattle.vf_plan.specs.Paths.{joined};
 ghost use Rattle.vf_report.specs.Tested as counts;
 ghost use Rattle.vf_top.specs.Report.{only_job, limits_for, text_with, totals_with, report_text, report_status, status_of_totals, turns_of};
 
+use crate::limits::{BUDGET, OUTPUT, TURNS};
 use std::alloc::Global;
 use std::sync::ledger::Ledger;
 use vf_base::{Job, Limits, Memory, NodeNo, Outcome, Steps};
@@ -17,14 +18,11 @@ use vf_plan::{Node, Plan, joined};
 use vf_report::{Summary, summary_line, test_line};
 use vf_solo::solo;
 
-/// The limits of a test that has none of its own: turns and bytes written.
+/// The limits of a test that has none of its own.
 const LIMITS: Limits = Limits {
-    turns: 1_000_000,
-    output: 65_536,
+    turns: TURNS,
+    output: OUTPUT,
 };
-
-/// The most pages that a test may touch.
-const BUDGET: u32 = 65_536;
 
 /// A report of one test: its line, the line of counts, and the status that the program ends with.
 #[derive(Drop)]
