@@ -1,0 +1,10 @@
+pub mod LayoutLemmas
+pub mod TableLemmas
+pub mod ReadyLemmas
+pub mod CopyLemmas
+pub mod RetireLemmas
+pub mod JournalLemmas
+pub mod EventLemmas
+pub mod RecordLemmas
+pub mod FollowLemmas
+pub mod EvictLemmas

@@ -1,0 +1,130 @@
+-- Ready jobs, and the nearest image that fits.
+use Rattle.std.proofs.Common.{◌≡◌, ℕ, zero, suc, ◌+◌, ◌<◌, ◌≤◌, Bool, true, false, ◌&&◌, ◌||◌, ◌==◌, not, if◌then◌else◌, List, [], ◌∷◌, ◌++◌, length, take, drop, map, Option, Some, None, IfSome, option_map, refl, sym, ◌∙◌, ap, ap₂, subst, arith, slice_get, get_or, unwrap_or}
+use Rattle.std.specs.List.{list_any, find, All}
+use Rattle.std.proofs.lemmas.Bool.{false≢true}
+use Rattle.std.proofs.lemmas.Option.{slice_get_within, slice_get-map}
+use Rattle.vf_base.specs.declared.names.Job.{Job}
+use Rattle.vf_base.specs.declared.names.Job.TheVariants.{Reach, Finish}
+use Rattle.vf_base.specs.declared.names.NodeNo.{NodeNo}
+use Rattle.vf_base.specs.declared.run.Header.{Header}
+use Rattle.vf_base.specs.declared.run.Limits.{Limits}
+use Rattle.vf_plan.specs.declared.plan.Node.{Node}
+use Rattle.vf_plan.specs.Paths.{at_parent, grown, path, with_number}
+use Rattle.vf_plan.proofs.CallerLemmas.{path-at}
+use Rattle.vf_jobs.specs.Jobs as jobs
+use Rattle.vf_jobs.specs.Jobs.{node_of, node_no, first_fitting, holds_fitting, sources}
+use Rattle.vf_jobs.specs.Setup.{Conditions}
+use Rattle.vf_journal.specs.declared.entry.Kind.TheVariants.{Unknown}
+use Rattle.vf_journal.specs.Records.{Held, Records, is_job, is_known, is_ready, is_idle, is_over, image_of, some_job}
+use Rattle.vf_records.specs.declared.row.HeldImage.{HeldImage}
+use Rattle.vf_records.specs.declared.row.Progress.TheVariants as rows
+use Rattle.vf_records.specs.declared.tables.Tables.{Tables}
+use Rattle.vf_records.specs.Account.{farm_of, is_left}
+use Rattle.vf_records.specs.Tables.{records_of, held_of, is_over_progress, is_idle_progress, AreTables}
+use Rattle.vf_records.proofs.TableLemmas.{listed_all, is_job_at, stage_self, is_idle_of, is_over_of, holds_at}
+
+-- ---- the first that passes a test
+
+pub find_here : {A : Type 0} (test : A → Bool) (xs : List A) (k : ℕ) (x : A) → slice_get xs k ≡ Some x
+    → find test (drop k xs) ≡ (if test x then Some x else find test (drop (k + 1) xs))
+find_here test [] k x e = cc
+find_here test (y ∷ xs) zero x e =
+    let is : y ≡ x = ap (λ o. unwrap_or o y) e in
+    ap (λ z. if test z then Some z else find test xs) is
+find_here test (y ∷ xs) (suc k) x e = find_here test xs k x e ∙ ap (λ n. if test x then Some x else find test (drop n (y ∷ xs))) (let same : suc (k + 1) ≡ suc k + 1 = omega arith in same)
+
+pub find_past : {A : Type 0} (test : A → Bool) (xs : List A) (k : ℕ) → length xs ≤ k → find test (drop k xs) ≡ None
+find_past test [] zero h = refl
+find_past test [] (suc k) h = refl
+find_past test (x ∷ xs) zero h = absurd (omega (arith, h))
+find_past test (x ∷ xs) (suc k) h = find_past test xs k (omega (arith, h))
+
+pub any_here : {A : Type 0} (test : A → Bool) (xs : List A) (k : ℕ) (x : A) → slice_get xs k ≡ Some x
+    → list_any test (drop k xs) ≡ (test x || list_any test (drop (k + 1) xs))
+any_here test [] k x e = cc
+any_here test (y ∷ xs) zero x e =
+    let is : y ≡ x = ap (λ o. unwrap_or o y) e in
+    ap (λ z. test z || list_any test xs) is
+any_here test (y ∷ xs) (suc k) x e = any_here test xs k x e ∙ ap (λ n. test x || list_any test (drop n (y ∷ xs))) (let same : suc (k + 1) ≡ suc k + 1 = omega arith in same)
+
+pub any_past : {A : Type 0} (test : A → Bool) (xs : List A) (k : ℕ) → length xs ≤ k → list_any test (drop k xs) ≡ false
+any_past test [] zero h = refl
+any_past test [] (suc k) h = refl
+any_past test (x ∷ xs) zero h = absurd (omega (arith, h))
+any_past test (x ∷ xs) (suc k) h = any_past test xs k (omega (arith, h))
+
+pub found_passes : {A : Type 0} (test : A → Bool) (xs : List A) (x : A) → find test xs ≡ Some x → test x ≡ true
+found_passes test [] x e = cc
+found_passes test (y ∷ xs) x e = by (found_passes test xs x) (test y) refl e
+  where
+    by : (find test xs ≡ Some x → test x ≡ true) → (s : Bool) → test y ≡ s → (if s then Some y else find test xs) ≡ Some x → test x ≡ true
+    by rest true h f = ap test (sym (ap (λ o. unwrap_or o y) f)) ∙ h
+    by rest false h f = rest f
+
+-- an element stands at each number within a list
+pub standing : {A : Type 0} (xs : List A) (k : ℕ) → k < length xs → (x : A) × (slice_get xs k ≡ Some x)
+standing [] k h = absurd (omega (arith, h))
+standing (x ∷ xs) zero h = (x, refl)
+standing (x ∷ xs) (suc k) h = standing xs k (omega (arith, h))
+
+-- ---- the jobs at their places
+
+module _ (s : Conditions) (counts : Held → Header) (t : Tables) (kept : AreTables s.plan counts t) where
+  pub ready_at : (at : ℕ) (job : Job) → slice_get t.layout.jobs.items at ≡ Some job
+      → is_ready (farm_of s) (records_of t) job
+      ≡ (is_idle_progress (get_or t.progress.items at rows.Idle) && jobs.is_ready s.plan (λ n. is_known (get_or t.kinds.items n Unknown)) job)
+  ready_at at job e =
+      ap₂ (λ a b. a && (b && jobs.is_ready s.plan (λ n. is_known (get_or t.kinds.items n Unknown)) job))
+      (is_job_at s.plan t.layout.jobs.items t.layout.places.items kept.layout at job e)
+      (ap is_idle (stage_self s.plan t.layout.jobs.items t.layout.places.items kept.layout t.progress.items t.told.items job at e)
+      ∙ is_idle_of (get_or t.progress.items at rows.Idle) (get_or t.told.items at None))
+
+  pub over_at : (at : ℕ) (job : Job) → slice_get t.layout.jobs.items at ≡ Some job
+      → is_over ((records_of t).stages job) ≡ is_over_progress (get_or t.progress.items at rows.Idle)
+  over_at at job e =
+      ap is_over (stage_self s.plan t.layout.jobs.items t.layout.places.items kept.layout t.progress.items t.told.items job at e)
+      ∙ is_over_of (get_or t.progress.items at rows.Idle) (get_or t.told.items at None)
+
+  pub left_all : is_left s (records_of t) ≡ list_any (λ job. not (is_over ((records_of t).stages job))) t.layout.jobs.items
+  left_all = ap (list_any (λ job. not (is_over ((records_of t).stages job)))) (sym (listed_all s.plan t.layout.jobs.items t.layout.places.items kept.layout))
+
+-- ---- the image of a node
+
+pub image_here : (images : List HeldImage) (k : ℕ) (image : HeldImage) (node : NodeNo) → slice_get images k ≡ Some image
+    → find (λ (h : Held). h.node.0 == node.0) (map held_of (drop k images))
+    ≡ (if image.node.0 == node.0 then Some (held_of image) else find (λ (h : Held). h.node.0 == node.0) (map held_of (drop (k + 1) images)))
+image_here [] k image node e = cc
+image_here (y ∷ images) zero image node e =
+    let is : y ≡ image = ap (λ o. unwrap_or o y) e in
+    ap (λ (z : HeldImage). if z.node.0 == node.0 then Some (held_of z) else find (λ (h : Held). h.node.0 == node.0) (map held_of images)) is
+image_here (y ∷ images) (suc k) image node e =
+    image_here images k image node e
+    ∙ ap (λ n. if image.node.0 == node.0 then Some (held_of image) else find (λ (h : Held). h.node.0 == node.0) (map held_of (drop n (y ∷ images)))) (let same : suc (k + 1) ≡ suc k + 1 = omega arith in same)
+
+pub image_past : (images : List HeldImage) (k : ℕ) (node : NodeNo) → length images ≤ k → find (λ (h : Held). h.node.0 == node.0) (map held_of (drop k images)) ≡ None
+image_past [] zero node h = refl
+image_past [] (suc k) node h = refl
+image_past (x ∷ images) zero node h = absurd (omega (arith, h))
+image_past (x ∷ images) (suc k) node h = image_past images k node (omega (arith, h))
+
+-- ---- from a node up
+
+abbrev pub above : List Node → Option NodeNo → List ℕ
+above nodes from = at_parent [] (grown with_number [] nodes) from
+
+pub nearest_here : (nodes : List Node) (limits : Limits) (held : ℕ → Option Header) (n : NodeNo) (node : Node) → slice_get nodes n.0 ≡ Some node → IfSome node.parent (λ p. p.0 < n.0)
+    → first_fitting limits held (above nodes (Some n)) ≡ (if holds_fitting limits (held n.0) then Some n.0 else first_fitting limits held (above nodes node.parent))
+nearest_here nodes limits held n node e down = ap (first_fitting limits held) (path-at nodes n.0 node e down)
+
+-- how far up a node stands at most
+abbrev pub height : Option NodeNo → ℕ
+height None = 0
+height (Some node) = node.0 + 1
+
+pub higher : (parent : Option NodeNo) (n : ℕ) → IfSome parent (λ p. p.0 < n) → height parent < n + 1
+higher None n h = omega arith
+higher (Some p) n h = omega (arith, h)
+
+pub still_within : (parent : Option NodeNo) (n most : ℕ) → n < most → IfSome parent (λ p. p.0 < n) → IfSome parent (λ p. p.0 < most)
+still_within None n most less h = h
+still_within (Some p) n most less h = omega (arith, less, h)

@@ -1,0 +1,9 @@
+use Rattle.std.proofs.Common.{◌≡◌, ◌∙◌, List, Option, length, map, sym, ap, ap₂}
+use Rattle.std.specs.Arc.{arc_value}
+use Rattle.vf_journal.specs.Records.{Records}
+use Rattle.vf_records.specs.Tables.{held_of}
+use Rattle.vf_records.proofs.RecordLemmas.{records_is}
+use Rattle.vf_records.proofs.records.Records.held.Goals as goal
+
+pub returns : goal.returns
+returns c = ap (map held_of) c.deref.ensures.value ∙ ap (λ (r : Records). r.held) (records_is c.self.inside c.args.self.now c.self.view_is c.self.invariant)

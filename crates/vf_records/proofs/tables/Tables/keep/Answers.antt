@@ -1,0 +1,70 @@
+use Rattle.std.proofs.Common.{◌≡◌, ◌<◌, ◌≤◌, ◌+◌, ◌*◌, ◌∙◌, List, [], ◌∷◌, ◌++◌, None, length, map, refl, sym, ap, ap₂, subst, arith, sum_by, vec_capacity, append_assoc, length-append}
+use Rattle.std.specs.List.{All}
+use Rattle.std.proofs.lemmas.List.{map-append}
+use Rattle.std.proofs.lemmas.List.Elements.{All-push}
+use Rattle.vf_base.specs.declared.names.Job.TheVariants.{Reach}
+use Rattle.vf_journal.specs.declared.entry.Entry.{Entry}
+use Rattle.vf_journal.specs.declared.entry.Entry.TheVariants.{Saved}
+use Rattle.vf_journal.specs.declared.entry.Kind.TheVariants as kinds
+use Rattle.vf_journal.specs.Records.{Held, Records}
+use Rattle.vf_journal.specs.Effects.{with_over, retirings, without_unneeded}
+use Rattle.vf_records.specs.declared.layout.Layout.{Layout}
+use Rattle.vf_records.specs.declared.row.HeldImage.{HeldImage}
+use Rattle.vf_records.specs.Account.{farm_of, solo_of}
+use Rattle.vf_records.specs.Tables.{held_of, to_come, records_of}
+use Rattle.vf_records.proofs.EventLemmas.{placed_job}
+use Rattle.vf_records.proofs.tables.Tables.keep.Goals as goal
+
+pub retire-requires : goal.retire-requires
+retire-requires c =
+    let s = c.args.setup.now in
+    let t = c.args.self.now in
+    let x = c.close.new.self in
+    let kept = c.close.ensures.tables in
+    let image = c.args.image in
+    let placed = placed_job s (solo_of s).counts t c.requires.tables (Reach image.node) c.requires.job in
+    let node = placed.node in
+    let long = c.requires.tables.layout.long in
+    let same = ap (λ (l : Layout). length l.jobs.items) c.close.ensures.layout in
+    let slack : length x.journal.items + sum_by to_come x.progress.items + length x.held.items + 1 ≤ length t.journal.items + sum_by to_come t.progress.items + length t.held.items = c.close.ensures.slack in
+    let most : length t.journal.items + sum_by to_come t.progress.items + length t.held.items ≤ 3 * length t.layout.jobs.items = c.requires.tables.room.most in
+    let longer = ap length c.push_reserved.ensures.items ∙ length-append x.held.items (image ∷ []) in
+    let wide = kept.room.held in
+    record {
+      layout = kept.layout;
+      progress = kept.progress;
+      told = kept.told;
+      quiet = kept.quiet;
+      kinds = kept.kinds;
+      counted = subst (All (λ (h : HeldImage). h.counts ≡ (solo_of s).counts (held_of h))) (sym c.push_reserved.ensures.items) (All-push (λ (h : HeldImage). h.counts ≡ (solo_of s).counts (held_of h)) x.held.items image kept.counted c.requires.counts);
+      within = subst (All (λ (h : HeldImage). h.node.0 < length s.plan)) (sym c.push_reserved.ensures.items) (All-push (λ (h : HeldImage). h.node.0 < length s.plan) x.held.items image kept.within (omega (arith, node, long)));
+      room = record {
+        most = omega (arith, slack, most, longer, same);
+        journal = kept.room.journal;
+        held = omega (arith, wide, c.push_reserved.ensures.capacity);
+      };
+    }
+
+pub returns-clause-records : goal.returns-clause-records
+returns-clause-records c =
+    let s = c.args.setup.now in
+    let t = c.args.self.now in
+    let x = c.close.new.self in
+    let image = c.args.image in
+    let grown : map held_of c.push_reserved.new.self.items ≡ (records_of t).held ++ held_of image ∷ [] =
+    ap (map held_of) c.push_reserved.ensures.items ∙ map-append held_of x.held.items (image ∷ []) ∙ ap (λ (r : Records). r.held ++ held_of image ∷ []) c.close.ensures.records in
+    c.retire.ensures.records ∙ ap (without_unneeded (farm_of s)) (ap₂ (λ (r : Records) (hs : List Held). record r { held = hs }) c.close.ensures.records grown)
+
+pub returns-clause-journal : goal.returns-clause-journal
+returns-clause-journal c =
+    let s = c.args.setup.now in
+    let t = c.args.self.now in
+    let x = c.close.new.self in
+    let image = c.args.image in
+    let entry = Saved image.node image.counts.turns image.pages image.base in
+    let grown : map held_of c.push_reserved.new.self.items ≡ (records_of t).held ++ held_of image ∷ [] =
+    ap (map held_of) c.push_reserved.ensures.items ∙ map-append held_of x.held.items (image ∷ []) ∙ ap (λ (r : Records). r.held ++ held_of image ∷ []) c.close.ensures.records in
+    let new : Records = record (with_over (Reach image.node) None (kinds.Saved image.counts.turns) (records_of t)) { held = (records_of t).held ++ held_of image ∷ [] } in
+    c.retire.ensures.journal
+    ∙ ap₂ (λ (js : List Entry) (r : Records). js ++ retirings (farm_of s) r) c.close.ensures.journal (ap₂ (λ (r : Records) (hs : List Held). record r { held = hs }) c.close.ensures.records grown)
+    ∙ append_assoc t.journal.items (entry ∷ []) (retirings (farm_of s) new)

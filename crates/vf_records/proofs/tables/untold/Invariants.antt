@@ -1,0 +1,5 @@
+use Rattle.std.proofs.Common.{◌≡◌, ◌-◌, ◌+◌, ◌≤◌, None, replicate, length}
+use Rattle.vf_records.proofs.tables.untold.Given as goal
+
+abbrev pub invariant-loop : goal.invariant-loop
+invariant-loop l = l.told.items ≡ replicate l.counter None

@@ -1,0 +1,57 @@
+-- What contracts see of `Records`, and how an entry changes it (docs/FARM.md, "The journal").
+use Rattle.std.specs.Prelude.{◌≡◌, Bool, true, false, not, List, ◌∷◌, ◌++◌, Option, Some, None}
+use Rattle.vf_base.specs.declared.names.Job.{Job}
+use Rattle.vf_design.specs.State.{State}
+use Rattle.vf_design.specs.Words.{machine_of}
+use Rattle.vf_jobs.specs.Setup.{Conditions}
+use Rattle.vf_journal.specs.declared.entry.Entry.{Entry}
+use Rattle.vf_journal.specs.Farm.{Farm}
+use Rattle.vf_journal.specs.Records.{Records, at_first, is_over, some_job}
+use Rattle.vf_journal.specs.Effects.{Seen, Guard, after, consequences}
+use Rattle.vf_journal.specs.Journal.{of_solo, ordered, replay, IsChosen, IsOfSolo, first_ready}
+use Rattle.vf_records.specs.declared.next.Next.{Next}
+use Rattle.vf_records.specs.declared.next.Next.TheVariants as nexts
+
+-- the farm of a setup
+abbrev pub farm_of : Conditions → Farm State
+farm_of s = record { machine = machine_of s.design; given = s.limits; budget = s.budget; order = s.order; nodes = s.plan }
+
+abbrev pub solo_of : Conditions → Seen
+solo_of s = of_solo (farm_of s)
+
+-- a setup, and the journal of a farm that runs it
+pub record Account : Type 0 where
+  pub setup : Conditions
+  pub journal : List Entry
+
+-- the records that the journal comes to
+abbrev pub records_in : Account → Records
+records_in a = replay (farm_of a.setup) at_first a.journal
+
+-- with an entry and what follows from it
+abbrev pub with_entry : Entry → Account → Account
+with_entry e a = record a { journal = a.journal ++ e ∷ consequences (farm_of a.setup) (solo_of a.setup) (records_in a) e }
+
+-- the records after an entry, with what follows from it
+abbrev pub records_after : Entry → Account → Records
+records_after e a = after (farm_of a.setup) (solo_of a.setup) (records_in a) e
+
+-- an entry that a lawful journal may have next
+pub record IsLawful (a : Account) (e : Entry) : Type 0 where
+  pub guard : Guard (farm_of a.setup) (solo_of a.setup) (records_in a) e
+  pub chosen : IsChosen (farm_of a.setup) ordered (records_in a) e
+  pub solo : IsOfSolo (farm_of a.setup) (records_in a) e
+
+-- ---- which job comes next
+
+abbrev pub next_of : Option Job → Bool → Next
+next_of (Some job) left = nexts.Job job
+next_of None true = nexts.Later
+next_of None false = nexts.Done
+
+abbrev pub is_left : Conditions → Records → Bool
+is_left s r = some_job (farm_of s) (λ job. not (is_over (r.stages job)))
+
+-- the first ready job; where there is none, whether some job is not over
+abbrev pub next_job_of : Account → Next
+next_job_of a = next_of (first_ready (farm_of a.setup) (records_in a)) (is_left a.setup (records_in a))

@@ -1,0 +1,6 @@
+pub mod Account
+pub mod Layout
+pub mod Tables
+pub mod Spreads
+pub mod Evictions
+pub mod Inner
