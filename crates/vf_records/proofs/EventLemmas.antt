@@ -25,7 +25,7 @@ use Rattle.vf_records.specs.declared.row.Progress.TheVariants as rows
 use Rattle.vf_records.specs.declared.tables.Tables.{Tables}
 use Rattle.vf_records.specs.Account.{farm_of}
 use Rattle.vf_records.specs.Layout.{place_in, IsLaidOut}
-use Rattle.vf_records.specs.Tables.{attempt_of, held_of, stage_of, stands_at, stage_at, stage_in, kinds_with, records_of, to_come, is_over_progress, is_idle_progress, AreTables}
+use Rattle.vf_records.specs.Tables.{attempt_of, held_of, stage_of, stands_at, stage_at, stage_in, kinds_with, records_of, to_come, is_over_progress, is_idle_progress, AreOver, AreTables}
 use Rattle.vf_records.proofs.TableLemmas.{job_at, listed_all, stage_self, same_records, stage_after, stage_run, idle_open}
 use Rattle.vf_records.proofs.ReadyLemmas.{over_at, ready_at, standing}
 
@@ -101,6 +101,20 @@ used progress k attempt h e =
     let sums = sum_by-set to_come progress k (rows.Running attempt) rows.Idle h in
     let three = idle_to_come (get_or progress k rows.Idle) e in
     omega (arith, sums, three)
+
+-- ---- the jobs that are over at the front
+
+pub over_set : (progress : List Progress) (k first : ℕ) → k < length progress → AreOver progress first → AreOver (slice_set progress k rows.Over) first
+over_set progress k first h passed j less = by (j == k) refl
+  where
+    by : (b : Bool) → (j == k) ≡ b → is_over_progress (get_or (slice_set progress k rows.Over) j rows.Idle) ≡ true
+    by true e = ap is_over_progress (ap (λ i. get_or (slice_set progress k rows.Over) i rows.Idle) (eqb-true j k e) ∙ get_or-set_same progress k rows.Over rows.Idle h)
+    by false e = ap is_over_progress (get_or-set_other progress k j rows.Over rows.Idle (eqb-false j k e)) ∙ passed j less
+
+pub over_run : (progress : List Progress) (k first : ℕ) (x : Progress) → is_over_progress (get_or progress k rows.Idle) ≡ false → AreOver progress first → AreOver (slice_set progress k x) first
+over_run progress k first x left passed j less =
+    let ne : j ≡ k → ⊥ = λ e. false≢true (sym left ∙ ap (λ i. is_over_progress (get_or progress i rows.Idle)) (sym e) ∙ passed j less) in
+    ap is_over_progress (get_or-set_other progress k j x rows.Idle ne) ∙ passed j less
 
 -- ---- records
 

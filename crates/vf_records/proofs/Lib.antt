@@ -8,3 +8,4 @@ pub mod EventLemmas
 pub mod RecordLemmas
 pub mod FollowLemmas
 pub mod EvictLemmas
+pub mod CallerLemmas

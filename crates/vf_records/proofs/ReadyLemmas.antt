@@ -17,9 +17,12 @@ use Rattle.vf_jobs.specs.Setup.{Conditions}
 use Rattle.vf_journal.specs.declared.entry.Kind.TheVariants.{Unknown}
 use Rattle.vf_journal.specs.Records.{Held, Records, is_job, is_known, is_ready, is_idle, is_over, image_of, some_job}
 use Rattle.vf_records.specs.declared.row.HeldImage.{HeldImage}
+use Rattle.vf_records.specs.declared.row.Progress.{Progress}
 use Rattle.vf_records.specs.declared.row.Progress.TheVariants as rows
 use Rattle.vf_records.specs.declared.tables.Tables.{Tables}
-use Rattle.vf_records.specs.Account.{farm_of, is_left}
+use Rattle.vf_journal.specs.Journal.{first_ready}
+use Rattle.vf_records.specs.declared.next.Next.TheVariants as nexts
+use Rattle.vf_records.specs.Account.{Account, farm_of, records_in, is_left, next_of, next_job_of}
 use Rattle.vf_records.specs.Tables.{records_of, held_of, is_over_progress, is_idle_progress, AreTables}
 use Rattle.vf_records.proofs.TableLemmas.{listed_all, is_job_at, stage_self, is_idle_of, is_over_of, holds_at}
 
@@ -88,6 +91,38 @@ module _ (s : Conditions) (counts : Held → Header) (t : Tables) (kept : AreTab
   pub left_all : is_left s (records_of t) ≡ list_any (λ job. not (is_over ((records_of t).stages job))) t.layout.jobs.items
   left_all = ap (list_any (λ job. not (is_over ((records_of t).stages job)))) (sym (listed_all s.plan t.layout.jobs.items t.layout.places.items kept.layout))
 
+-- ---- what the jobs at the front do not pass
+
+over_not_idle : (p : Progress) → is_over_progress p ≡ true → is_idle_progress p ≡ false
+over_not_idle rows.Idle e = absurd (false≢true e)
+over_not_idle (rows.Running attempt) e = refl
+over_not_idle rows.Over e = refl
+
+module _ (s : Conditions) (counts : Held → Header) (t : Tables) (kept : AreTables s.plan counts t) where
+  pub over_before : (k : ℕ) (job : Job) → k < t.first → slice_get t.layout.jobs.items k ≡ Some job → is_over ((records_of t).stages job) ≡ true
+  over_before k job h e = over_at s counts t kept k job e ∙ kept.first k h
+
+  pub unready_before : (k : ℕ) (job : Job) → k < t.first → slice_get t.layout.jobs.items k ≡ Some job → is_ready (farm_of s) (records_of t) job ≡ false
+  unready_before k job h e =
+      ready_at s counts t kept k job e
+      ∙ ap (λ b. b && jobs.is_ready s.plan (λ n. is_known (get_or t.kinds.items n Unknown)) job) (over_not_idle (get_or t.progress.items k rows.Idle) (kept.first k h))
+
+pub find_after : {A : Type 0} (test : A → Bool) (xs : List A) (n : ℕ) → ((k : ℕ) (x : A) → k < n → slice_get xs k ≡ Some x → test x ≡ false)
+    → find test xs ≡ find test (drop n xs)
+find_after test [] zero h = refl
+find_after test [] (suc n) h = refl
+find_after test (y ∷ xs) zero h = refl
+find_after test (y ∷ xs) (suc n) h =
+    ap (λ b. if b then Some y else find test xs) (h 0 y (omega arith) refl) ∙ find_after test xs n (λ k x less e. h (suc k) x (omega (arith, less)) e)
+
+pub any_after : {A : Type 0} (test : A → Bool) (xs : List A) (n : ℕ) → ((k : ℕ) (x : A) → k < n → slice_get xs k ≡ Some x → test x ≡ false)
+    → list_any test xs ≡ list_any test (drop n xs)
+any_after test [] zero h = refl
+any_after test [] (suc n) h = refl
+any_after test (y ∷ xs) zero h = refl
+any_after test (y ∷ xs) (suc n) h =
+    ap (λ b. b || list_any test xs) (h 0 y (omega arith) refl) ∙ any_after test xs n (λ k x less e. h (suc k) x (omega (arith, less)) e)
+
 -- ---- the image of a node
 
 pub image_here : (images : List HeldImage) (k : ℕ) (image : HeldImage) (node : NodeNo) → slice_get images k ≡ Some image
@@ -128,3 +163,24 @@ higher (Some p) n h = omega (arith, h)
 pub still_within : (parent : Option NodeNo) (n most : ℕ) → n < most → IfSome parent (λ p. p.0 < n) → IfSome parent (λ p. p.0 < most)
 still_within None n most less h = h
 still_within (Some p) n most less h = omega (arith, less, h)
+
+-- ---- which job comes next
+
+next_some : (o : Option Job) (left : Bool) (job : Job) → next_of o left ≡ nexts.Job job → o ≡ Some job
+next_some (Some j) left job e = ap (λ j. Some j) (same_next j job e)
+  where
+    same_next : (a b : Job) → nexts.Job a ≡ nexts.Job b → a ≡ b
+    same_next a b e = cc
+next_some None true job e = cc
+next_some None false job e = cc
+
+-- a job that comes next is the first ready one
+pub next_ready : (a : Account) (job : Job) → next_job_of a ≡ nexts.Job job → first_ready (farm_of a.setup) (records_in a) ≡ Some job
+next_ready a job e = next_some (first_ready (farm_of a.setup) (records_in a)) (is_left a.setup (records_in a)) job e
+
+-- so it is ready
+pub ready_next : (a : Account) (job : Job) → next_job_of a ≡ nexts.Job job → is_ready (farm_of a.setup) (records_in a) job ≡ true
+ready_next a job e = found_passes (is_ready (farm_of a.setup) (records_in a)) (jobs.jobs a.setup.plan) job (next_ready a job e)
+
+pub ready_in : (s : Conditions) (r : Records) (job : Job) → next_of (first_ready (farm_of s) r) (is_left s r) ≡ nexts.Job job → is_ready (farm_of s) r job ≡ true
+ready_in s r job e = found_passes (is_ready (farm_of s) r) (jobs.jobs s.plan) job (next_some (first_ready (farm_of s) r) (is_left s r) job e)

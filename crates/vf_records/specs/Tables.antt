@@ -95,12 +95,17 @@ IsQuiet progress told = (k : ℕ) → is_over_progress (get_or progress k rows.I
 abbrev pub AreCounted : (Held → Header) → List HeldImage → Type 0
 AreCounted counts held = All (λ (h : HeldImage). h.counts ≡ counts (held_of h)) held
 
+-- the jobs of the first places are over
+abbrev pub AreOver : List Progress → ℕ → Type 0
+AreOver progress first = (k : ℕ) → k < first → is_over_progress (get_or progress k rows.Idle) ≡ true
+
 pub record AreTables (nodes : List Node) (counts : Held → Header) (t : Tables) : Type 0 where
   pub layout : IsLaidOut nodes (length nodes) t.layout.jobs.items t.layout.places.items
   pub progress : length t.progress.items ≡ length t.layout.jobs.items
   pub told : length t.told.items ≡ length t.layout.jobs.items
   pub quiet : IsQuiet t.progress.items t.told.items
   pub kinds : length t.kinds.items ≡ length nodes
+  pub first : AreOver t.progress.items t.first
   pub counted : AreCounted counts t.held.items
   pub within : All (λ (h : HeldImage). h.node.0 < length nodes) t.held.items
   pub room : HasRoom t

@@ -11,7 +11,7 @@ ghost use Rattle.vf_journal.specs.Records.{Records, image_of, is_job, is_ready, 
 ghost use Rattle.vf_journal.specs.Effects.{with_stage, with_over, with_copies, copies, retirings, without_unneeded, is_copied, is_needed, is_retired, without_image, origin_of, started_from};
 ghost use Rattle.vf_records.specs.Account.{farm_of, solo_of};
 ghost use Rattle.vf_records.specs.Spreads.{spread_seen};
-ghost use Rattle.vf_records.specs.Tables.{entries_ahead, kinds_with, held_of, records_of, AreTables, is_over_progress};
+ghost use Rattle.vf_records.specs.Tables.{entries_ahead, kinds_with, held_of, records_of, AreOver, AreTables, is_over_progress};
 
 use crate::row::{HeldImage, Progress};
 use crate::spread::Spread;
@@ -37,6 +37,27 @@ fn know(kinds: &mut Vec<Kind>, job: Job, kind: Kind)
     if let Job::Reach(node) = job {
         kinds[node.0 as usize] = kind;
     }
+}
+
+fn is_over(progress: Progress) -> bool
+    ensures { result ≡ is_over_progress progress }
+{
+    matches!(progress, Progress::Over)
+}
+
+/// The place from a first one on of a job that is not over; the jobs before it are over.
+fn over_from(progress: &Vec<Progress>, first: usize) -> usize
+    requires { AreOver progress.now.items first }
+    ensures { AreOver progress.now.items result }
+{
+    let mut at = first;
+    while at < progress.len() {
+        if !is_over(progress[at]) {
+            return at;
+        }
+        at += 1;
+    }
+    at
 }
 
 impl Tables {
@@ -79,6 +100,7 @@ impl Tables {
         self.progress[place] = Progress::Over;
         tell(&mut self.told, place, tells);
         know(&mut self.kinds, job, kind);
+        self.first = over_from(&self.progress, self.first);
         self.journal.push_reserved(entry);
     }
 
@@ -141,7 +163,7 @@ impl Tables {
         requires { AreTables setup.now.plan (solo_of setup.now).counts self.now }
         ensures { result ≡ is_needed (farm_of setup.now) (records_of self.now) node }
     {
-        for at in 0..self.layout.jobs.len() {
+        for at in self.first..self.layout.jobs.len() {
             if self.needs(setup, node, at) {
                 return true;
             }

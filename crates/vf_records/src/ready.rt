@@ -109,7 +109,7 @@ impl Tables {
         requires { AreTables setup.now.plan (solo_of setup.now).counts self.now }
         ensures { result ≡ first_ready (farm_of setup.now) (records_of self.now) }
     {
-        for at in 0..self.layout.jobs.len() {
+        for at in self.first..self.layout.jobs.len() {
             if self.is_ready_at(setup, at) {
                 return Some(self.layout.jobs[at]);
             }
@@ -122,7 +122,7 @@ impl Tables {
         requires { AreTables setup.now.plan (solo_of setup.now).counts self.now }
         ensures { result ≡ is_left setup.now (records_of self.now) }
     {
-        for at in 0..self.layout.jobs.len() {
+        for at in self.first..self.layout.jobs.len() {
             if !self.is_over_at(at) {
                 return true;
             }

@@ -21,6 +21,8 @@ pub(crate) struct Tables {
     pub(crate) progress: Vec<Progress>,
     pub(crate) told: Vec<Option<Told>>,
     pub(crate) kinds: Vec<Kind>,
+    /// The jobs before this place are over.
+    pub(crate) first: usize,
     pub(crate) held: Vec<HeldImage>,
     pub(crate) journal: Vec<Entry>,
 }
@@ -73,6 +75,7 @@ impl Tables {
             progress,
             told,
             kinds,
+            first: 0,
             held,
             journal,
         })

@@ -9,7 +9,7 @@ use Rattle.vf_records.specs.Account.{solo_of}
 use Rattle.vf_records.specs.Layout.{place_in}
 use Rattle.vf_records.specs.Tables.{records_of, to_come, is_over_progress}
 use Rattle.vf_records.proofs.TableLemmas.{quiet_run}
-use Rattle.vf_records.proofs.EventLemmas.{placed_job, ready_job, idle_at, idle_not_over, used, begun_with}
+use Rattle.vf_records.proofs.EventLemmas.{placed_job, ready_job, idle_at, idle_not_over, over_run, used, begun_with}
 use Rattle.vf_records.proofs.tables.Tables.begin.Goals as goal
 
 pub origin-origin-requires-clause-node : goal.origin-origin-requires-clause-node
@@ -96,6 +96,7 @@ returns-clause-tables c =
       quiet = quiet_run t.progress.items t.told.items k (rows.Running attempt) progress told
           (ap (λ n. is_over_progress (get_or t.progress.items n rows.Idle)) same ∙ idle_not_over (get_or t.progress.items p rows.Idle) idle) kept.quiet;
       kinds = kept.kinds;
+      first = over_run t.progress.items k t.first (rows.Running attempt) (ap (λ n. is_over_progress (get_or t.progress.items n rows.Idle)) same ∙ idle_not_over (get_or t.progress.items p rows.Idle) idle) kept.first;
       counted = kept.counted;
       within = kept.within;
       room = record { most = omega (arith, longer, less, most); journal = omega (arith, room, c.push_reserved.ensures.capacity); held = kept.room.held };

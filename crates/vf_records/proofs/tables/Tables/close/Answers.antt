@@ -7,7 +7,7 @@ use Rattle.vf_records.specs.Account.{solo_of}
 use Rattle.vf_records.specs.Layout.{place_in}
 use Rattle.vf_records.specs.Tables.{to_come, IsQuiet}
 use Rattle.vf_records.proofs.TableLemmas.{quiet_set}
-use Rattle.vf_records.proofs.EventLemmas.{placed_job, not_over_at, spent, closed, kinds_long}
+use Rattle.vf_records.proofs.EventLemmas.{placed_job, not_over_at, over_set, spent, closed, kinds_long}
 use Rattle.vf_records.proofs.tables.Tables.close.Goals as goal
 
 pub place-place-requires : goal.place-place-requires
@@ -25,6 +25,12 @@ tell-requires c =
 
 pub know-requires : goal.know-requires
 know-requires c = (placed_job c.args.setup.now (solo_of c.args.setup.now).counts c.args.self.now c.requires.tables c.args.job c.requires.job).kinds
+
+pub over_from-self-requires : goal.over_from-self-requires
+over_from-self-requires c =
+    let t = c.args.self.now in
+    let placed = placed_job c.args.setup.now (solo_of c.args.setup.now).counts t c.requires.tables c.args.job c.requires.job in
+    over_set t.progress.items c.place-place.result t.first (omega (arith, placed.progress, c.place-place.ensures)) c.requires.tables.first
 
 pub push_reserved-requires : goal.push_reserved-requires
 push_reserved-requires c =
@@ -76,6 +82,7 @@ returns-clause-tables c =
       quiet = subst (IsQuiet (slice_set t.progress.items k rows.Over)) (sym c.tell.ensures)
           (quiet_set t.progress.items t.told.items k rows.Over c.args.tells progress told (λ e. absurd (false≢true (sym e))) kept.quiet);
       kinds = ap length c.know.ensures ∙ kinds_long c.args.job c.args.kind t.kinds.items ∙ kept.kinds;
+      first = c.over_from-self.ensures;
       counted = kept.counted;
       within = kept.within;
       room = record { most = omega (arith, longer, less, most); journal = omega (arith, room, c.push_reserved.ensures.capacity); held = kept.room.held };

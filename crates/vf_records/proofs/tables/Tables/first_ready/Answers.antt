@@ -4,10 +4,10 @@ use Rattle.std.proofs.lemmas.Option.{slice_get_read}
 use Rattle.vf_base.specs.declared.names.Job.{Job}
 use Rattle.vf_jobs.specs.Jobs as jobs
 use Rattle.vf_journal.specs.Records.{is_ready}
-use Rattle.vf_records.specs.Account.{farm_of}
+use Rattle.vf_records.specs.Account.{farm_of, solo_of}
 use Rattle.vf_records.specs.Tables.{records_of}
 use Rattle.vf_records.proofs.TableLemmas.{listed_all}
-use Rattle.vf_records.proofs.ReadyLemmas.{find_here, find_past, standing}
+use Rattle.vf_records.proofs.ReadyLemmas.{find_after, unready_before, find_here, find_past, standing}
 use Rattle.vf_records.proofs.tables.Tables.first_ready.Goals as goal
 
 pub returns-then-is_ready_at : goal.returns-then-is_ready_at
@@ -38,3 +38,8 @@ returns c =
     let test = is_ready (farm_of c.args.setup.now) (records_of t) in
     sym (ap (find test) (sym (listed_all c.args.setup.now.plan listed t.layout.places.items c.requires.layout)) ∙ c.loop-at.invariant
     ∙ find_past test listed c.loop-at.at (omega arith))
+
+pub loop-at-init : goal.loop-at-init
+loop-at-init c =
+    find_after (is_ready (farm_of c.args.setup.now) (records_of c.args.self.now)) c.args.self.now.layout.jobs.items c.args.self.now.first
+    (unready_before c.args.setup.now (solo_of c.args.setup.now).counts c.args.self.now c.requires)

@@ -41,6 +41,7 @@ returns-clause-tables c =
       told = kept.told;
       quiet = kept.quiet;
       kinds = kept.kinds;
+      first = kept.first;
       counted = subst (All (λ (h : HeldImage). h.counts ≡ (solo_of s).counts (held_of h))) (sym c.release.ensures.held) (All-filter stays (λ (h : HeldImage). h.counts ≡ (solo_of s).counts (held_of h)) t.held.items kept.counted);
       within = subst (All (λ (h : HeldImage). h.node.0 < length s.plan)) (sym c.release.ensures.held) (All-filter stays (λ (h : HeldImage). h.node.0 < length s.plan) t.held.items kept.within);
       room = record {

@@ -3,7 +3,7 @@ use Rattle.std.specs.List.{list_any}
 use Rattle.vf_journal.specs.Records.{is_over}
 use Rattle.vf_records.specs.Account.{solo_of}
 use Rattle.vf_records.specs.Tables.{records_of}
-use Rattle.vf_records.proofs.ReadyLemmas.{any_here, any_past, left_all, over_at, standing}
+use Rattle.vf_records.proofs.ReadyLemmas.{any_after, over_before, any_here, any_past, left_all, over_at, standing}
 use Rattle.vf_records.proofs.tables.Tables.is_left.Goals as goal
 
 pub returns-then-not-is_over_at : goal.returns-then-not-is_over_at
@@ -34,3 +34,8 @@ returns c =
     let listed = t.layout.jobs.items in
     sym (left_all c.args.setup.now (solo_of c.args.setup.now).counts t c.requires ∙ c.loop-at.invariant
     ∙ any_past (λ job. not (is_over ((records_of t).stages job))) listed c.loop-at.at (omega arith))
+
+pub loop-at-init : goal.loop-at-init
+loop-at-init c =
+    any_after (λ job. not (is_over ((records_of c.args.self.now).stages job))) c.args.self.now.layout.jobs.items c.args.self.now.first
+    (λ k job h e. ap not (over_before c.args.setup.now (solo_of c.args.setup.now).counts c.args.self.now c.requires k job h e))

@@ -7,7 +7,8 @@ use Rattle.vf_journal.specs.Records.{is_over}
 use Rattle.vf_records.specs.Account.{solo_of}
 use Rattle.vf_records.specs.Tables.{records_of}
 use Rattle.vf_records.proofs.TableLemmas.{listed_all}
-use Rattle.vf_records.proofs.ReadyLemmas.{any_here, any_past, standing}
+use Rattle.vf_records.proofs.CopyLemmas.{and_false}
+use Rattle.vf_records.proofs.ReadyLemmas.{any_after, over_before, any_here, any_past, standing}
 use Rattle.vf_records.proofs.tables.Tables.is_needed.Goals as goal
 
 pub returns-then-needs : goal.returns-then-needs
@@ -41,3 +42,10 @@ returns c =
     let test : Job → Bool = λ job. is_below s.plan c.args.node.0 (node_of job) && not (is_over ((records_of t).stages job)) in
     sym (ap (list_any test) (sym (listed_all s.plan listed t.layout.places.items c.requires.layout)) ∙ c.loop-at.invariant
     ∙ any_past test listed c.loop-at.at (omega arith))
+
+pub loop-at-init : goal.loop-at-init
+loop-at-init c =
+    let s = c.args.setup.now in
+    let t = c.args.self.now in
+    any_after (λ job. is_below s.plan c.args.node.0 (node_of job) && not (is_over ((records_of t).stages job))) t.layout.jobs.items t.first
+    (λ k job h e. ap (λ b. is_below s.plan c.args.node.0 (node_of job) && not b) (over_before s (solo_of s).counts t c.requires k job h e) ∙ and_false (is_below s.plan c.args.node.0 (node_of job)))

@@ -36,6 +36,7 @@ retire-requires c =
       told = kept.told;
       quiet = kept.quiet;
       kinds = kept.kinds;
+      first = kept.first;
       counted = subst (All (λ (h : HeldImage). h.counts ≡ (solo_of s).counts (held_of h))) (sym c.push_reserved.ensures.items) (All-push (λ (h : HeldImage). h.counts ≡ (solo_of s).counts (held_of h)) x.held.items image kept.counted c.requires.counts);
       within = subst (All (λ (h : HeldImage). h.node.0 < length s.plan)) (sym c.push_reserved.ensures.items) (All-push (λ (h : HeldImage). h.node.0 < length s.plan) x.held.items image kept.within (omega (arith, node, long)));
       room = record {
