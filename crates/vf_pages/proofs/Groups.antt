@@ -29,6 +29,14 @@ AllOn-own p (w ∷ ws) =
     (λ ne. rw (own-other p w ws ne).0 (All-nil (λ w. w.at / 64 ≡ p)))
     (cases_eq (w.at / 64) p)
 
+-- writes of page p alone
+pub own-all : (p : ℕ) (ws : List Write) → AllOn p ws → (own p ws ≡ ws) × (beyond p ws ≡ [])
+own-all p [] on = (refl, refl)
+own-all p (w ∷ ws) on =
+    let here = own-here p w ws (All-head (λ w. w.at / 64 ≡ p) w ws on) in
+    let rest = own-all p ws (All-tail (λ w. w.at / 64 ≡ p) w ws on) in
+    (here.0 ∙ ap (λ xs. w ∷ xs) rest.0, here.1 ∙ rest.1)
+
 -- writes of page p touch no other page
 pub touches-AllOn : (p q : ℕ) (ws : List Write) → AllOn p ws → touches q ws ≡ true → q ≡ p
 touches-AllOn p q [] all h = absurd (cc)

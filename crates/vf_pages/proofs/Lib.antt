@@ -16,4 +16,5 @@ pub mod Shuffles
 pub mod Bases
 pub mod Tables
 pub mod Writing
+pub mod OnePage
 pub mod CallerLemmas

@@ -5,7 +5,7 @@ use Rattle.vf_base.specs.declared.write.Write.{Write}
 use Rattle.vf_frames.specs.declared.holder.Note.{Note}
 use Rattle.vf_frames.specs.declared.holder.Holder.{Holder}
 use Rattle.vf_frames.specs.Holders.{Accounts, Keeps, AllHeld, count}
-use Rattle.vf_frames.specs.Calls.{capped, wins, SeenHeld, NotesGrow, SameRest, Claimed, Missed}
+use Rattle.vf_frames.specs.Calls.{capped, wins, NoWin, SeenHeld, NotesGrow, SameRest, Claimed, Missed}
 use Rattle.vf_pages.specs.declared.gather.Lack.{Lack}
 use Rattle.vf_pages.specs.declared.gather.Lack.TheVariants.{Frame, Memory}
 use Rattle.vf_pages.specs.Pages.{Page, entry, or_entry, old_words, Owns, IsSorted}
@@ -28,6 +28,12 @@ pub record CountedPages (pages : List Page) (done : List Write) (fresh : List Pa
   pub was_shared : (p : ℕ) (e o : Page) → entry p fresh ≡ Some e → entry p pages ≡ Some o → 1 ≤ count o.frame others
   pub needed : length fresh ≡ need others pages (written_pages done)
   pub taken : free_frames before.name.frames (now ∷ others) + length fresh ≡ free_frames before.name.frames (before ∷ others)
+
+-- the holder may have notes more, none of a won claim, and all else is as before
+pub record Noted (before now : Holder) : Type 0 where
+  pub frames : now.frames ≡ before.frames
+  pub rest : SameRest before now
+  pub notes : NotesGrow NoWin before.notes now.notes
 
 -- for the writes done so far, each page that is new or shared has a fresh one in a claimed frame
 pub record Gathered (zero : List ℕ) (pages : List Page) (done : List Write) (a0 : Option (List ℕ)) (before : Holder) (a : Option (List ℕ)) (now : Holder) (fresh : List Page) : Type 0 where

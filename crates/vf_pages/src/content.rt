@@ -1,4 +1,4 @@
-ghost use Rattle.std.specs.Prelude.{◌≡◌, ◌%◌, slice_index, true, IfOk, OnOk};
+ghost use Rattle.std.specs.Prelude.{◌≡◌, ◌%◌, slice_index, true, IfOk, OnOk, MatchBool};
 ghost use Rattle.vf_pages.specs.Pages.{zero_page};
 ghost use Rattle.vf_pages.specs.Writes.{after, AllOn};
 
@@ -109,6 +109,26 @@ impl Content {
             write_words(words, page, writes);
         }
         self.put_back();
+    }
+
+    /// Writes the words in their cell, unless another holder has it or they are taken out.
+    pub(crate) fn write_cell(&mut self, page: u32, writes: &[Write]) -> bool
+        requires { AllOn page writes.now }
+        ensures { MatchBool result
+            (content_words self.new ≡ after writes.now page (content_words self.old))
+            (content_words self.new ≡ content_words self.old) }
+    {
+        if self.taken.is_some() {
+            return false;
+        }
+        let Some(cell) = Arc::get_mut(&mut self.cell) else {
+            return false;
+        };
+        let Some(words) = cell else {
+            return false;
+        };
+        write_words(words, page, writes);
+        true
     }
 
     // Puts words that are taken out back into their cell, unless another holder has it.

@@ -6,6 +6,7 @@
 //! refusal words and pages are as before (docs/FARM.md, "Pages").
 #![tactic(auto)]
 
+mod alone;
 mod base;
 mod change;
 mod content;

@@ -15,11 +15,11 @@ pub(crate) fn share(alloc: Global, held: &[Held]) -> Result<Vec<Held>, Memory>
 {
     let mut copy = Vec::with_capacity(alloc, held.len())?;
     for one in held {
-        copy.push(Held {
+        copy.push_reserved(Held {
             page: one.page,
             frame: one.frame,
             content: one.content.share(alloc)?,
-        })?;
+        });
     }
     Ok(copy)
 }
