@@ -1,29 +1,28 @@
 -- Writes of one page that a holder has alone, and notes that come before a change.
-use Rattle.std.proofs.Common.{◌≡◌, ℕ, zero, suc, ◌+◌, ◌-◌, ◌/◌, ◌<◌, ◌≤◌, Bool, true, false, cond, List, [], ◌∷◌, length, map, get_or, slice_index, slice_set, refl, sym, ap, ◌∙◌, arith, subst, ⊎_elim}
+use Rattle.std.proofs.Common.{◌≡◌, ℕ, zero, suc, ◌+◌, ◌-◌, ◌/◌, ◌<◌, ◌≤◌, Bool, true, false, cond, List, [], ◌∷◌, length, map, get_or, slice_index, slice_set, refl, sym, ap, ◌∙◌, arith, ⊎_elim}
 use Rattle.std.specs.Prelude.{Option, Some, None, slice_get, MatchBool}
 use Rattle.std.proofs.lemmas.Bool.{cases_lt}
 use Rattle.std.proofs.lemmas.List.{get_or-map, length-map}
-use Rattle.std.proofs.lemmas.Option.{none-some}
 use Rattle.vf_base.specs.declared.write.Write.{Write}
 use Rattle.vf_frames.specs.declared.holder.Name.{Name}
 use Rattle.vf_frames.specs.declared.holder.Holder.{Holder}
 use Rattle.vf_frames.specs.Numbers.{has}
-use Rattle.vf_frames.specs.Holders.{total, count, one_if_has, Accounts, Keeps}
+use Rattle.vf_frames.specs.Holders.{total, count, one_if_has}
 use Rattle.vf_frames.specs.Calls.{capped, wins, NoWin, NotesLook, Looked}
 use Rattle.vf_pages.specs.declared.held.Held.{Held}
 use Rattle.vf_pages.specs.declared.refusal.PageRefusal.{PageRefusal}
 use Rattle.vf_pages.specs.declared.refusal.PageRefusal.TheVariants.{Short, Memory}
-use Rattle.vf_pages.specs.Pages.{Page, Pages, IsHeld, IsSorted, IsPlace, entry}
+use Rattle.vf_pages.specs.Pages.{Page, Pages, IsSorted, IsPlace}
 use Rattle.vf_pages.specs.Views.{page_of, pages_of}
-use Rattle.vf_pages.specs.Writes.{address, written_pages, own, beyond, AllOn, AreWrites}
+use Rattle.vf_pages.specs.Writes.{address, written_pages, AllOn, AreWrites}
 use Rattle.vf_pages.specs.Needs.{free_frames}
 use Rattle.vf_pages.specs.InPlace.{in_place, rewritten, IsWrittenAt}
-use Rattle.vf_pages.specs.Gathered.{Gathered, Noted, ShortNotes}
+use Rattle.vf_pages.specs.Gathered.{Noted, ShortNotes}
 use Rattle.vf_pages.specs.Calls.{Wrote, WroteAmong, IsShort, ShortAmong, IsUnmade, OnRefusal, EachAlone}
 use Rattle.vf_pages.proofs.Entries.{rises-order}
 use Rattle.vf_pages.proofs.Frames.{free-same}
 use Rattle.vf_pages.proofs.Groups.{own-all}
-use Rattle.vf_pages.proofs.Writing.{get-is, written-entry, written-pages, written-more}
+use Rattle.vf_pages.proofs.Writing.{written-entry, written-pages, written-more}
 use Rattle.vf_pages.proofs.InPlaces.{in_place-none}
 use Rattle.vf_frames.proofs.CallerLemmas.{notes-then, notes-weaker, notes-none, wins-append, any-right, rest-then}
 

@@ -1,11 +1,11 @@
-use Rattle.std.proofs.Common.{◌≡◌, ℕ, ◌/◌, [], length, refl, sym, ap, ◌∙◌, subst, arith}
+use Rattle.std.proofs.Common.{ℕ, ◌/◌, [], refl, sym, ap, ◌∙◌, arith}
 use Rattle.std.specs.Prelude.{Some}
 use Rattle.vf_pages.specs.declared.held.Held.{Held}
 use Rattle.vf_pages.specs.Views.{page_of, pages_of}
 use Rattle.vf_pages.proofs.Lookups.{held-place, length-pages}
 use Rattle.vf_pages.proofs.Goes.{goes-alone, owned-has}
 use Rattle.vf_pages.proofs.Steps.{gathered-none}
-use Rattle.vf_pages.proofs.OnePage.{match-both, at-get, all-on, noted-none, noted-look, written-alone}
+use Rattle.vf_pages.proofs.OnePage.{match-both, at-get, all-on, noted-look, written-alone}
 use Rattle.vf_pages.proofs.alone.write_alone.Goals as goal
 
 pub index-requires : goal.index-requires

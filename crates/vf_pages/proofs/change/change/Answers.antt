@@ -1,13 +1,11 @@
-use Rattle.std.proofs.Common.{◌≡◌, ℕ, List, [], ◌∷◌, map, refl, sym, ap, ◌∙◌, subst, cond}
-use Rattle.std.specs.Prelude.{OnOk}
+use Rattle.std.proofs.Common.{ℕ, List, [], refl, sym, ap, ◌∙◌, subst, cond}
 use Rattle.std.specs.Arc.{arc_value}
 use Rattle.std.proofs.lemmas.Result.{on_ok_weaker, on_err_weaker}
 use Rattle.vf_frames.specs.Numbers.{has, rises}
 use Rattle.vf_frames.specs.Calls.{NoWin}
 use Rattle.vf_frames.proofs.CallerLemmas.{notes-none}
-use Rattle.vf_pages.specs.Pages.{Page, Pages, pages_in, frames_in, occurs, page_limit, IsHeld}
+use Rattle.vf_pages.specs.Pages.{Page, Pages, pages_in, frames_in, occurs, page_limit}
 use Rattle.vf_pages.specs.Views.{pages_of}
-use Rattle.vf_pages.specs.InPlace.{in_place}
 use Rattle.vf_pages.specs.Places.{IsTable}
 use Rattle.vf_pages.specs.Calls.{Wrote, WroteAmong, OnRefusal, IsShort, ShortAmong, IsUnmade}
 use Rattle.vf_pages.proofs.Goes.{err-weaker}
