@@ -1,5 +1,6 @@
 -- What an entry makes of the records of a farm.
-use Rattle.std.proofs.Common.{◌≡◌, ℕ, ◌<◌, Bool, true, false, List, [], ◌∷◌, ◌++◌, ◌⊎◌, inl, inr, length, option_map, Option, Some, None, IfSome, refl, sym, ◌∙◌, ap, ap₂, subst, arith}
+use Rattle.std.proofs.Common.{◌≡◌, ℕ, ◌<◌, Bool, true, false, List, [], ◌∷◌, ◌++◌, length, option_map, Option, Some, None, IfSome, refl, sym, ◌∙◌, ap, ap₂, subst, arith, ⊎_elim}
+use Rattle.std.proofs.lemmas.Bool.{false≢true, or_cases}
 use Rattle.std.specs.Arc.{arc_value}
 use Rattle.vf_base.specs.declared.names.Job.{Job}
 use Rattle.vf_base.specs.declared.names.Job.TheVariants.{Reach, Finish}
@@ -12,9 +13,9 @@ use Rattle.vf_journal.specs.declared.entry.Entry.TheVariants.{End, Pages, Lost}
 use Rattle.vf_journal.specs.declared.entry.Kind.{Kind}
 use Rattle.vf_journal.specs.declared.entry.Kind.TheVariants as kinds
 use Rattle.vf_journal.specs.Farm.{limits}
-use Rattle.vf_journal.specs.Records.{Records, Attempt, running, is_job, is_ready, is_over}
+use Rattle.vf_journal.specs.Records.{Records, Attempt, Stage, idle, running, deferred, over, is_job, is_ready, is_running, is_over}
 use Rattle.vf_journal.specs.Effects as effects
-use Rattle.vf_journal.specs.Effects.{IsGivenUp, after, consequences, spread_of}
+use Rattle.vf_journal.specs.Effects.{after, consequences, spread_of}
 use Rattle.vf_journal.specs.Journal.{IsJournal, ordered}
 use Rattle.vf_records.specs.declared.records.Records.TheInside.{Inside}
 use Rattle.vf_records.specs.declared.spread.Reached.{Reached}
@@ -73,6 +74,13 @@ pub record IsEnded (d : Conditions) (t : Tables) (job : Job) : Type 0 where
   pub node : node_of job < length d.plan
   pub left : is_over ((records_of t).stages job) ≡ false
 
+-- the attempt of a job that runs
+attempt_in : (stage : Stage) → is_running stage ≡ true → (attempt : Attempt) × (stage ≡ running attempt)
+attempt_in idle h = absurd (false≢true h)
+attempt_in (running attempt) h = (attempt, refl)
+attempt_in deferred h = absurd (false≢true h)
+attempt_in (over tells) h = absurd (false≢true h)
+
 module _ (inside : Inside) (a : Account) (view : account_of inside ≡ a) (kept : IsKept inside) (d : Conditions) (is : d ≡ arc_value inside.setup) where
   ended_by : (job : Job) → is_job d.plan job ≡ true → is_over ((records_of inside.tables).stages job) ≡ false → IsEnded d inside.tables job
   ended_by job h left =
@@ -96,7 +104,11 @@ module _ (inside : Inside) (a : Account) (view : account_of inside ≡ a) (kept 
       ended_by job (ready_job d (solo_of d).counts inside.tables tables job ready) (ready_open d (solo_of d).counts inside.tables tables job ready)
 
   pub ended_lost : (job : Job) (turn : ℕ) → IsLawful a (Lost job turn) → IsEnded d inside.tables job
-  ended_lost job turn may = elim may.guard as (λ _. IsEnded d inside.tables job) [ inl given ↦ ended_running job given.attempt given.runs | inr ready ↦ ended_ready job ready.0 ]
+  ended_lost job turn may =
+      ⊎_elim
+      (λ runs. let found = attempt_in ((records_in a).stages job) runs in ended_running job found.0 found.1)
+      (λ ready. ended_ready job ready)
+      (or_cases (is_running ((records_in a).stages job)) (is_ready (farm_of a.setup) (records_in a) job) may.guard)
 
 -- ---- what the end of a run spreads
 

@@ -26,7 +26,7 @@ pub record Account : Type 0 where
 
 -- the records that the journal comes to
 abbrev pub records_in : Account → Records
-records_in a = replay (farm_of a.setup) at_first a.journal
+records_in a = replay (farm_of a.setup) (of_solo (farm_of a.setup)) at_first a.journal
 
 -- with an entry and what follows from it
 abbrev pub with_entry : Entry → Account → Account
