@@ -1,35 +1,35 @@
 -- Images over a base.
-use Rattle.std.proofs.Common.{◌≡◌, ◌≢◌, ◌&&◌, nat_le, ℕ, suc, zero, ◌+◌, ◌-◌, ◌/◌, ◌%◌, ◌<◌, ◌≤◌, ◌||◌, Bool, true, false, cond, if◌then◌else◌, List, Option, None, Some, length, slice_index, is_some, length-append, nat_eq, refl, sym, ap, ap₂, subst, ◌∙◌, arith, ⊎_elim}
-use Rattle.std.specs.Cmp.Lexicographic.{pointwise}
+use Rattle.std.proofs.Common.{◌≡◌, ◌≢◌, ◌&&◌, nat_le, ℕ, suc, zero, ◌+◌, ◌-◌, ◌/◌, ◌%◌, ◌<◌, ◌≤◌, ◌||◌, ◌==◌, not, ◌*◌, Bool, true, false, cond, if◌then◌else◌, List, Option, None, Some, length, slice_index, is_some, length-append, refl, sym, ap, ap₂, subst, ◌∙◌, arith, ⊎_elim}
 use Rattle.std.proofs.lemmas.Bool.{false≢true, cases_lt, eqb-true, eq-eqb, and_parts, leb-true, le-leb}
-use Rattle.std.proofs.lemmas.Bool.Decides.{Decides-eqb}
-use Rattle.std.proofs.lemmas.Slice.Eq.{slice_eq-Decides}
-use Rattle.vf_pages.proofs.CallerLemmas.{entry-page}
+use Rattle.vf_pages.proofs.CallerLemmas.{entry-page, same_at}
 use Rattle.vf_base.specs.declared.names.Job.{Job}
 use Rattle.vf_base.specs.declared.names.Job.TheVariants.{Reach}
 use Rattle.vf_base.specs.declared.names.NodeNo.{NodeNo}
 use Rattle.vf_base.specs.declared.run.Limits.{Limits}
 use Rattle.vf_machine.specs.Machine.{Machine}
+use Rattle.vf_machine.specs.Search.{any_below}
 use Rattle.vf_machine.specs.Pages.{is_touched, page_differs}
 use Rattle.vf_machine.specs.Run.{Moment, words_at, moment_at, mark_at}
 use Rattle.vf_machine.specs.Solo.{turns_before_end}
 use Rattle.vf_machine.specs.Laws.{SameFor}
 use Rattle.vf_machine.proofs.CallerLemmas.{is_touched-suc, later, reads_grow, written_grows, counts_once, IsFirst, Finds, first_finds}
-use Rattle.vf_design.specs.Program.{word_count}
+use Rattle.vf_design.specs.Program.{page_count, word_count}
 use Rattle.vf_design.specs.Words.{machine_of}
 use Rattle.vf_jobs.specs.Kinds.{save_of, save_at, all_read}
 use Rattle.vf_jobs.specs.Setup.{Conditions}
 use Rattle.vf_jobs.proofs.CallerLemmas.{begins, begins_more, below, descends}
 use Rattle.vf_pages.specs.Pages.{Page, Pages, entry, or_entry, word_or, word_of}
-use Rattle.vf_pages.specs.Bases.{left_of, is_in_base, has_words}
+use Rattle.vf_pages.specs.Bases.{left_of, is_in_base, has_words, same_below}
 use Rattle.vf_pages.specs.Calls.{KeptChanged}
-use Rattle.vf_design.specs.State.{State, IsSound}
+use Rattle.vf_design.specs.State.{State}
 use Rattle.vf_base.specs.declared.run.Header.{Header}
 use Rattle.vf_jobs.specs.Jobs.{node_of, fits}
-use Rattle.vf_image.specs.Runs.{stimulus_of, limits_for, moment_in, words_in, last_save, touches, IsRunAt, Stands}
+use Rattle.vf_image.specs.Runs.{stimulus_of, limits_for, moment_in, words_in, last_save, touches, AreSound, IsRunAt, Stands}
 use Rattle.vf_image.specs.Simulators.{Simulator, IsSimulator}
 use Rattle.vf_image.specs.Images.{Checkpoint, IsImage, IsBase, IsHeldBy, full, over, Serves, StandsOver}
 use Rattle.vf_image.specs.Runs.{IsSavedAt}
+use Rattle.vf_image.proofs.StepLemmas.{same_test}
+use Rattle.vf_image.proofs.CountLemmas.{touched_within}
 use Rattle.vf_image.proofs.ForkLemmas.{shared, touched_alike, read_at, full_stands}
 
 -- ---- a touched page stays touched
@@ -52,24 +52,51 @@ touched_later c job page k t h on =
 
 -- ---- words of pages
 
-same_words : (xs ys : List ℕ) → pointwise nat_eq xs ys ≡ true → xs ≡ ys
-same_words xs ys h = (slice_eq-Decides Decides-eqb xs ys true (sym h)).0 refl
-
 -- the base has the page, with the same words
 record InBase (base : List Page) (e : Page) : Type 0 where
   pub there : Page
   pub is : entry e.page base ≡ Some there
-  pub words : e.words ≡ there.words
+  pub words : (i : ℕ) → i < 64 → slice_index e.words i ≡ slice_index there.words i
 
 in_base : (base : List Page) (e : Page) → is_in_base base e ≡ true → InBase base e
 in_base base e h = by (entry e.page base) refl h
   where
     by : (o : Option Page) → entry e.page base ≡ o → has_words o e.words ≡ true → InBase base e
     by None is h = absurd (false≢true h)
-    by (Some b) is h = record { there = b; is = is; words = same_words e.words b.words h }
+    by (Some b) is h = record { there = b; is = is; words = λ i below. same_at e.words b.words 64 i h below }
 
 none_some : {A : Type 0} (o : Option A) (x : A) → o ≡ None → o ≡ Some x → ⊥
 none_some o x none some = let wrong = sym none ∙ some in cc
+
+-- a held page has its words of the run
+word_there : (c : Conditions) (job : Job) (k : ℕ) (pages : Pages) → Stands c job k pages → (page i : ℕ) (e : Page) → entry page pages.pages ≡ Some e
+    → 64 * page + i < word_count c.design → i < 64 → slice_index e.words i ≡ slice_index (words_in c job k) (64 * page + i)
+word_there c job k pages stands page i e is below small =
+    let number : (64 * page + i) / 64 ≡ page = omega (arith, small) in
+    let index : (64 * page + i) % 64 ≡ i = omega (arith, small) in
+    sym (ap (λ n. slice_index e.words n) index)
+    ∙ sym (ap (word_or pages.zero (64 * page + i)) (ap (λ n. entry n pages.pages) number ∙ is))
+    ∙ stands.words (64 * page + i) below
+
+and_not : (a b : Bool) → (not a && b) ≡ not (a || not b)
+and_not true b = refl
+and_not false true = refl
+and_not false false = refl
+
+-- two pages have the same words just where none differs in what they are pages of
+same_or_differs : (before now xs ys : List ℕ) (page n : ℕ) → ((i : ℕ) → i < n → slice_index xs i ≡ slice_index now (64 * page + i))
+    → ((i : ℕ) → i < n → slice_index ys i ≡ slice_index before (64 * page + i))
+    → same_below xs ys n ≡ not (any_below (λ at. not (slice_index before (64 * page + at) == slice_index now (64 * page + at))) n)
+unfolding same_below any_below
+same_or_differs before now xs ys page zero of_now of_before = refl
+same_or_differs before now xs ys page (suc n) of_now of_before =
+    ap₂ ◌&&◌ (same_or_differs before now xs ys page n (λ i h. of_now i (omega (arith, h))) (λ i h. of_before i (omega (arith, h))))
+    (ap₂ ◌==◌ (of_now n (omega arith)) (of_before n (omega arith)) ∙ same_test (slice_index now (64 * page + n)) (slice_index before (64 * page + n)))
+    ∙ and_not (any_below (λ at. not (slice_index before (64 * page + at) == slice_index now (64 * page + at))) n) (slice_index before (64 * page + n) == slice_index now (64 * page + n))
+
+is_left : (same : Bool) (x : Page) → is_some (cond same None (Some x)) ≡ not same
+is_left true x = refl
+is_left false x = refl
 
 module _ (c : Conditions) (job base_job : Job) (t since : ℕ) (pages base own : Pages) (stands : Stands c job t pages) (under : Stands c base_job since base)
     (kept : (page : ℕ) → touches c base_job since page ≡ true → touches c job t page ≡ true)
@@ -110,7 +137,7 @@ module _ (c : Conditions) (job base_job : Job) (t since : ℕ) (pages base own :
               let there = in_base base.pages x on in
               let number = entry-page (at / 64) pages.pages x some in
               let found : entry (at / 64) base.pages ≡ Some there.there = ap (λ n. entry n base.pages) (sym number) ∙ there.is in
-              sym (under.words at below) ∙ ap (word_or base.zero at) found ∙ ap (λ ws. slice_index ws (at % 64)) (sym there.words)
+              sym (under.words at below) ∙ ap (word_or base.zero at) found ∙ sym (there.words (at % 64) (omega arith))
               ∙ sym (ap (word_or pages.zero at) some) ∙ stands.words at below
 
   all_touched : (page : ℕ) → (is_some (entry page own.pages) || touches c base_job since page) ≡ touches c job t page
@@ -132,6 +159,43 @@ module _ (c : Conditions) (job base_job : Job) (t since : ℕ) (pages base own :
               let number = entry-page page pages.pages x some in
               let touched : touches c base_job since page ≡ true = sym (under.touched page) ∙ ap (λ n. is_some (entry n base.pages)) (sym number) ∙ ap is_some there.is in
               ap₂ (λ o b. is_some o || b) (left page ∙ ap (left_of base.pages) some ∙ ap (λ b. cond b None (Some x)) on) touched ∙ on_here
+
+  -- a page of the run that is left, by what the base has
+  left_is : (p : ℕ) (x : Page) (o : Option Page) → entry p pages.pages ≡ Some x → entry p base.pages ≡ o → entry p own.pages ≡ cond (has_words o x.words) None (Some x)
+  left_is p x o some is =
+      left p ∙ ap (left_of base.pages) some
+      ∙ ap (λ there. cond (has_words there x.words) None (Some x)) (ap (λ n. entry n base.pages) (entry-page p pages.pages x some) ∙ is)
+
+  -- the pages that are left are those touched, but for those that are the same in the base
+  own_exactly : ((page : ℕ) → touches c job t page ≡ true → page < page_count c.design)
+      → (page : ℕ) → is_some (entry page own.pages) ≡ (touches c job t page && not (touches c base_job since page && not (page_differs (words_in c base_job since) (words_in c job t) page)))
+  own_exactly within page = by (entry page pages.pages) refl
+    where
+      exactly : (a b : Bool) → touches c job t page ≡ a → touches c base_job since page ≡ b
+          → (a && not (b && not (page_differs (words_in c base_job since) (words_in c job t) page))) ≡ (touches c job t page && not (touches c base_job since page && not (page_differs (words_in c base_job since) (words_in c job t) page)))
+      exactly a b x y = ap₂ (λ p q. p && not (q && not (page_differs (words_in c base_job since) (words_in c job t) page))) (sym x) (sym y)
+
+      over_some : (x : Page) → entry page pages.pages ≡ Some x → touches c job t page ≡ true → (o : Option Page) → entry page base.pages ≡ o
+          → is_some (entry page own.pages) ≡ (touches c job t page && not (touches c base_job since page && not (page_differs (words_in c base_job since) (words_in c job t) page)))
+      over_some x some on None is = ap is_some (left_is page x None some is) ∙ exactly true false on (sym (under.touched page) ∙ ap is_some is)
+      over_some x some on (Some there) is =
+          ap is_some (left_is page x (Some there) some is) ∙ is_left (same_below x.words there.words 64) x
+          ∙ ap not (same_or_differs (words_in c base_job since) (words_in c job t) x.words there.words page 64
+          (λ i small. word_there c job t pages stands page i x some (inside i small) small)
+          (λ i small. word_there c base_job since base under page i there is (inside i small) small))
+          ∙ exactly true true on (sym (under.touched page) ∙ ap is_some is)
+        where
+          inside : (i : ℕ) → i < 64 → 64 * page + i < word_count c.design
+          inside i small =
+              let below = within page on in
+              let long : word_count c.design ≡ 64 * page_count c.design = refl in
+              omega (arith, below, long, small)
+
+      by : (o : Option Page) → entry page pages.pages ≡ o → is_some (entry page own.pages) ≡ (touches c job t page && not (touches c base_job since page && not (page_differs (words_in c base_job since) (words_in c job t) page)))
+      by None lacks =
+          ap is_some (left page ∙ ap (left_of base.pages) lacks)
+          ∙ exactly false (touches c base_job since page) (sym (stands.touched page) ∙ ap is_some lacks) refl
+      by (Some x) some = over_some x some (sym (stands.touched page) ∙ ap is_some some) (entry page base.pages) refl
 
 -- ---- the base's save point comes first
 
@@ -247,9 +311,9 @@ is_base b node t kept serves proper saved = record { above = serves.below; prope
         omega (arith, grown, end, moment)
 
 -- a simulator at its save point, in the pages that a full image has not
-pub stands_over : (b : Checkpoint) (node : NodeNo) (t : ℕ) (pages own : Pages) → IsImage b → b.base ≡ None → Serves b (Reach node) → IsSavedAt b.setup node t → Stands b.setup (Reach node) t pages
+pub stands_over : (b : Checkpoint) (node : NodeNo) (t : ℕ) (pages own : Pages) → IsImage b → b.base ≡ None → Serves b (Reach node) → IsSavedAt b.setup node t → AreSound b.setup (Reach node) t → Stands b.setup (Reach node) t pages
     → ((p : ℕ) → entry p own.pages ≡ left_of b.pages.pages (entry p pages.pages)) → own.zero ≡ pages.zero → StandsOver b.setup node b.node b.header.turns t own
-stands_over b node t pages own kept none serves saved stands left zero_is =
+stands_over b node t pages own kept none serves saved sound stands left zero_is =
     let under = full_stands b kept none in
     let touched = base_touches b node t kept serves saved in
     record {
@@ -257,13 +321,15 @@ stands_over b node t pages own kept none serves saved stands left zero_is =
       own = own_words b.setup (Reach node) (Reach b.node) t b.header.turns pages b.pages own stands under touched left zero_is;
       others = other_words b.setup (Reach node) (Reach b.node) t b.header.turns pages b.pages own stands under touched left zero_is;
       touched = all_touched b.setup (Reach node) (Reach b.node) t b.header.turns pages b.pages own stands under touched left zero_is;
+      exact = own_exactly b.setup (Reach node) (Reach b.node) t b.header.turns pages b.pages own stands under touched left zero_is
+          (λ page on. touched_within b.setup (Reach node) t page sound on);
     }
 
 abbrev node_or : NodeNo → Option NodeNo → NodeNo
 node_or n None = n
 node_or n (Some m) = m
 
-abbrev turn_or : ℕ → Option ℕ → ℕ
+abbrev pub turn_or : ℕ → Option ℕ → ℕ
 turn_or n None = n
 turn_or n (Some m) = m
 
@@ -317,13 +383,14 @@ kept_changes s b node pages sim reach is saved kept none setup serves proper cha
     let at_save : IsSavedAt b.setup node s.header.turns = subst (λ c. IsSavedAt c node s.header.turns) (sym setup) saved in
     let stands : Stands b.setup (Reach node) s.header.turns s.pages =
     subst (λ c. Stands c (Reach node) s.header.turns s.pages) (sym setup) (subst (λ job. Stands s.setup job s.header.turns s.pages) reach sim.at.stands) in
-    let over_base = stands_over b node s.header.turns s.pages pages kept none serves_node at_save stands changed.pages changed.zero in
+    let sound : AreSound s.setup (Reach node) s.header.turns = subst (λ job. AreSound s.setup job s.header.turns) reach sim.sound in
+    let over_base = stands_over b node s.header.turns s.pages pages kept none serves_node at_save (subst (λ c. AreSound c (Reach node) s.header.turns) (sym setup) sound) stands changed.pages changed.zero in
     record {
       setup = sim.setup;
       node = subst (λ n. n < length s.setup.plan) (sym is) sim.job;
       at_save = saved;
       saved = sim.saved ∙ ap (λ job. last_save s.setup job s.header.turns) reach;
-      sound = subst (λ job. IsSound s.setup.design (moment_in s.setup job s.header.turns).state) reach sim.sound;
+      sound = sound;
       run = subst (λ job. IsRunAt s.setup job s.header.turns s.header s.text) reach sim.at.run;
       held = over b.node b.header.turns refl (subst (λ c. IsBase c node b.node b.header.turns s.header.turns) setup (is_base b node s.header.turns kept serves_node (λ e. proper (e ∙ is)) at_save))
           (subst (λ c. StandsOver c node b.node b.header.turns s.header.turns pages) setup over_base);

@@ -1,15 +1,14 @@
 -- A simulator has as many pages as its run has touched.
-use Rattle.std.proofs.Common.{◌≡◌, ◌≢◌, ℕ, zero, suc, ◌+◌, ◌-◌, ◌*◌, ◌/◌, ◌<◌, ◌≤◌, Bool, true, false, not, ◌||◌, ◌==◌, map, nat_le, nat_lt, ◌&&◌, Option, None, List, [], ◌∷◌, length, slice_index, Some, cond, if◌then◌else◌, is_some, refl, sym, ap, ap₂, subst, ◌∙◌, arith, ⊎_elim}
+use Rattle.std.proofs.Common.{◌≡◌, ℕ, zero, suc, ◌+◌, ◌*◌, ◌/◌, ◌<◌, Bool, true, false, not, ◌||◌, ◌==◌, Option, None, List, [], ◌∷◌, length, slice_index, Some, cond, if◌then◌else◌, is_some, refl, sym, ap, ap₂, subst, ◌∙◌, arith, ⊎_elim}
 use Rattle.std.proofs.lemmas.Bool.{false≢true, cases_lt, cases_eq, eq-eqb, ne_eqb, eqb-true, or_cases, or_right}
-use Rattle.std.proofs.lemmas.List.{get_or_past, length-replicate}
+use Rattle.std.proofs.lemmas.List.{get_or_past}
 use Rattle.vf_base.specs.declared.names.Job.{Job}
 use Rattle.vf_base.specs.declared.write.Write.{Write}
-use Rattle.vf_machine.specs.Run.{Moment, words_at}
+use Rattle.vf_machine.specs.Run.{Moment}
 use Rattle.vf_machine.specs.Search.{count_below}
 use Rattle.vf_machine.specs.Pages.{page_count, page_differs, is_touched}
 use Rattle.vf_machine.proofs.CallerLemmas.{any_found, is_touched-zero, is_touched-suc, count_below-ext, count_below-more}
 use Rattle.vf_design.specs.Program as program
-use Rattle.vf_design.specs.Program.{word_count}
 use Rattle.vf_design.specs.Step.{start}
 use Rattle.vf_design.specs.Words.{machine_of, words_of}
 use Rattle.vf_frames.specs.Numbers.{rises, has}
@@ -20,22 +19,22 @@ use Rattle.vf_pages.specs.declared.refusal.PageRefusal.TheVariants.{Short, Memor
 use Rattle.vf_pages.specs.Calls.{OnRefusal, IsShort, IsUnmade}
 use Rattle.vf_pages.specs.Needs.{new_pages, is_new}
 use Rattle.vf_design.specs.declared.turn.Turn.{Turn}
-use Rattle.vf_design.specs.State.{State}
-use Rattle.vf_machine.specs.Writes.{writes_page}
+use Rattle.vf_design.specs.State.{State, IsSound}
+use Rattle.vf_design.proofs.CallerLemmas.{length-words_of, start_sound}
 use Rattle.vf_machine.proofs.CallerLemmas.{moment_at-suc, changed_pages_lem}
 use Rattle.vf_image.specs.Simulators.{Simulator, IsSimulator, IsNext}
 use Rattle.vf_image.proofs.StepLemmas.{next_writes, pages_written}
 use Rattle.vf_pages.proofs.CallerLemmas.{written_pages-rise}
-use Rattle.vf_jobs.specs.Setup.{Conditions}
+use Rattle.vf_jobs.specs.Setup.{Conditions, IsSetup, words_at_start}
 use Rattle.vf_pages.specs.Pages.{Page, Pages, entry, pages_in, page_limit, IsSorted}
 use Rattle.vf_pages.proofs.CallerLemmas.{rises-parts, entry-here, entry-other, entry-below}
-use Rattle.vf_image.specs.Runs.{stimulus_of, limits_for, moment_in, words_in, touches, touched_in, Stands}
+use Rattle.vf_image.specs.Runs.{stimulus_of, limits_for, moment_in, words_in, touches, touched_in, AreSound, Stands}
 
--- the words of each state of an early design, sound or not, fill its pages
-words_long : (p : program.Program) (s : State) → length (words_of p s) ≡ word_count p
-words_long p s =
-    let zeros = length-replicate {A = ℕ} (word_count p - 22) 0 in
-    omega (arith, zeros)
+-- a state has as many pages as the design says
+page_count_is : (c : Conditions) → IsSetup c → page_count (words_at_start (machine_of c.design)) ≡ program.page_count c.design
+page_count_is c kept =
+    let long = length-words_of c.design start (start_sound c.design kept.formed) in
+    omega (arith, long)
 
 -- past the last page no word differs
 same_zero : (a b : ℕ) → a ≡ 0 → b ≡ 0 → not (a == b) ≡ true → ⊥
@@ -50,14 +49,15 @@ differs_within before after page n lb la h =
     (get_or_past after (64 * page + found.at) 0 (omega (arith, la, ge))) found.here))
     (cases_lt page n)
 
-touched_within : (c : Conditions) (job : Job) (k page : ℕ) → touches c job k page ≡ true → page < program.page_count c.design
-touched_within c job zero page h = absurd (false≢true (sym (is_touched-zero (machine_of c.design) (stimulus_of c job) (limits_for c job) page) ∙ h))
-touched_within c job (suc k) page h =
+pub touched_within : (c : Conditions) (job : Job) (k page : ℕ) → AreSound c job k → touches c job k page ≡ true → page < program.page_count c.design
+touched_within c job zero page sound h = absurd (false≢true (sym (is_touched-zero (machine_of c.design) (stimulus_of c job) (limits_for c job) page) ∙ h))
+touched_within c job (suc k) page sound h =
     let m = machine_of c.design in
     ⊎_elim
-    (λ earlier. touched_within c job k page earlier)
+    (λ earlier. touched_within c job k page (λ j below. sound j (omega (arith, below))) earlier)
     (λ here. differs_within (words_in c job k) (words_in c job (suc k)) page (program.page_count c.design)
-    (words_long c.design (moment_in c job k).state) (words_long c.design (moment_in c job (suc k)).state) here)
+    (length-words_of c.design (moment_in c job k).state (sound k (omega arith)))
+    (length-words_of c.design (moment_in c job (suc k)).state (sound (suc k) (omega arith))) here)
     (or_cases (touches c job k page) (page_differs (words_in c job k) (words_in c job (suc k)) page)
     (sym (is_touched-suc m (stimulus_of c job) (limits_for c job) k page) ∙ h))
 
@@ -87,16 +87,19 @@ count_held (x ∷ xs) n low limit r within =
         by true e = ap (λ b. is_some (if b then Some x else entry p xs)) e
         by false e = ap (λ b. is_some (if b then Some x else entry p xs)) e ∙ there
 
-pub pages_counted : (c : Conditions) (job : Job) (k : ℕ) (pages : Pages) → Stands c job k pages → IsSorted pages.pages
+-- as many pages as pass a test, where just those are held
+pub entries_counted : (c : Conditions) (pages : Pages) (is : ℕ → Bool) → IsSetup c → IsSorted pages.pages → ((p : ℕ) → is_some (entry p pages.pages) ≡ is p)
+    → ((p : ℕ) → is p ≡ true → p < program.page_count c.design) → length pages.pages ≡ count_below is (page_count (words_at_start (machine_of c.design)))
+entries_counted c pages is kept sorted held within =
+    sym (count_held pages.pages (program.page_count c.design) 0 page_limit sorted (λ p there. within p (sym (held p) ∙ there)))
+    ∙ count_below-ext (λ p. is_some (entry p pages.pages)) is (program.page_count c.design) (λ p below. held p)
+    ∙ ap (count_below is) (sym (page_count_is c kept))
+
+pub pages_counted : (c : Conditions) (job : Job) (k : ℕ) (pages : Pages) → IsSetup c → AreSound c job k → Stands c job k pages → IsSorted pages.pages
     → length pages.pages ≡ touched_in c job k
-pages_counted c job k pages stands sorted =
-    let m = machine_of c.design in
-    let long = words_long c.design start in
-    let n : page_count (m.words m.start) ≡ program.page_count c.design = omega (arith, long) in
-    sym (count_held pages.pages (program.page_count c.design) 0 page_limit sorted
-    (λ p there. touched_within c job k p (sym (stands.touched p) ∙ there)))
-    ∙ count_below-ext (λ p. is_some (entry p pages.pages)) (is_touched m (stimulus_of c job) (limits_for c job) k) (program.page_count c.design) (λ p below. stands.touched p)
-    ∙ ap (count_below (is_touched m (stimulus_of c job) (limits_for c job) k)) (sym n)
+pages_counted c job k pages kept sound stands sorted =
+    entries_counted c pages (is_touched (machine_of c.design) (stimulus_of c job) (limits_for c job) k) kept sorted stands.touched
+    (λ p on. touched_within c job k p sound on)
 
 -- ---- the pages that a turn brings
 
@@ -171,8 +174,7 @@ next_counted s turn sim next sorted =
     let n = program.page_count c.design in
     let es = s.pages.pages in
     let ws = turn.writes.items in
-    let long = words_long c.design start in
-    let pages : page_count (m.words m.start) ≡ n = omega (arith, long) in
+    let pages : page_count (m.words m.start) ≡ n = page_count_is c sim.setup in
     let after = moment_at-suc m stim limits k in
     let differs : (p : ℕ) → page_differs (words_in c s.job k) (words_in c s.job (suc k)) p ≡ has p (written_pages ws) =
     λ p. ap (λ (now : Moment State). page_differs (words_in c s.job k) (words_of c.design now.state) p) after
@@ -181,9 +183,10 @@ next_counted s turn sim next sorted =
     λ p. is_touched-suc m stim limits k p ∙ ap₂ ◌||◌ (sym (sim.at.stands.touched p)) (differs p) in
     let rise = written_pages-rise 0 (length s.pages.zero) ws (next_writes s turn sim next) in
     let within : (p : ℕ) → has p (written_pages ws) ≡ true → p < n =
-    λ p there. differs_within (words_in c s.job k) (words_in c s.job (suc k)) p n (words_long c.design (moment_in c s.job k).state) (words_long c.design (moment_in c s.job (suc k)).state) (differs p ∙ there) in
+    λ p there. differs_within (words_in c s.job k) (words_in c s.job (suc k)) p n (length-words_of c.design (moment_in c s.job k).state (sim.sound k (omega arith)))
+    (length-words_of c.design (moment_in c s.job (suc k)).state (subst (λ (now : Moment State). IsSound c.design now.state) (sym after) next.sound)) (differs p ∙ there) in
     let both = new_counted es (written_pages ws) n _ _ rise within in
-    let held = count_held es n 0 page_limit sorted (λ p there. touched_within c s.job k p (sym (sim.at.stands.touched p) ∙ there)) in
+    let held = count_held es n 0 page_limit sorted (λ p there. touched_within c s.job k p sim.sound (sym (sim.at.stands.touched p) ∙ there)) in
     let all = count_below-ext (is_touched m stim limits (suc k)) (λ p. is_some (entry p es) || has p (written_pages ws)) n (λ p _. touched p) in
     let count = ap (count_below (is_touched m stim limits (suc k))) pages in
     omega (arith, both, held, all, count)

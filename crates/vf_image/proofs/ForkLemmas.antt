@@ -21,7 +21,7 @@ use Rattle.vf_jobs.proofs.CallerLemmas.{begins, below, descends, shares_save_poi
 use Rattle.vf_jobs.specs.Setup.{Conditions, IsSetup}
 use Rattle.vf_pages.specs.Pages.{Pages, entry, word_at}
 use Rattle.vf_image.specs.Simulators.{Simulator, IsSimulator}
-use Rattle.vf_image.specs.Runs.{stimulus_of, limits_for, moment_in, last_save, GoesPast, IsRunAt, Stands, IsAt}
+use Rattle.vf_image.specs.Runs.{stimulus_of, limits_for, last_save, AreSound, GoesPast, IsRunAt, Stands, IsAt}
 use Rattle.vf_image.specs.Images.{Checkpoint, IsImage, IsHeldBy, full, over, Serves}
 
 -- runs that are the same touch the same pages
@@ -178,9 +178,9 @@ forked_simulator i s kept serves job stands setup header text saved =
       setup = subst IsSetup (sym setup) kept.setup;
       job = subst (λ (c : Conditions). node_of s.job < length c.plan) (sym setup) job;
       saved = saved ∙ kept.saved ∙ saves_alike i s.job kept serves ∙ ap₂ (λ (c : Conditions) (h : Header). last_save c s.job h.turns) (sym setup) (sym header);
-      sound = subst (λ (c : Conditions). IsSound c.design (moment_in c s.job s.header.turns).state) (sym setup)
-          (subst (λ (h : Header). IsSound i.setup.design (moment_in i.setup s.job h.turns).state) (sym header)
-          (subst (λ (now : Moment State). IsSound i.setup.design now.state) (shared i s.job kept serves i.header.turns (omega arith)).moment kept.sound));
+      sound = subst (λ (c : Conditions). AreSound c s.job s.header.turns) (sym setup)
+          (subst (λ (h : Header). AreSound i.setup s.job h.turns) (sym header)
+          (λ j below. subst (λ (now : Moment State). IsSound i.setup.design now.state) (shared i s.job kept serves j below).moment (kept.sound j below)));
       at = subst (λ (c : Conditions). IsAt c s.job s.header.turns s.header s.text s.pages) (sym setup)
           (subst (λ (h : Header). IsAt i.setup s.job h.turns h s.text s.pages) (sym header)
           (subst (λ bytes. IsAt i.setup s.job i.header.turns i.header bytes s.pages) (sym text) at));

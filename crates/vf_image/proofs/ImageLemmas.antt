@@ -2,9 +2,8 @@
 use Rattle.std.proofs.Common.{◌≡◌, ℕ, ◌<◌, ◌∙◌, length, None, refl, sym, ap, subst}
 use Rattle.vf_base.specs.declared.names.Job.TheVariants.{Reach}
 use Rattle.vf_base.specs.declared.names.NodeNo.{NodeNo}
-use Rattle.vf_design.specs.State.{IsSound}
 use Rattle.vf_jobs.specs.Jobs.{node_of}
-use Rattle.vf_image.specs.Runs.{last_save, moment_in, IsRunAt, Stands}
+use Rattle.vf_image.specs.Runs.{last_save, AreSound, IsRunAt, Stands}
 use Rattle.vf_image.specs.Simulators.{Simulator, IsSimulator}
 use Rattle.vf_image.specs.Images.{Checkpoint, IsImage, full}
 use Rattle.vf_image.specs.Runs.{IsSavedAt}
@@ -20,7 +19,7 @@ kept_whole s node sim reach is saved = record {
   node = subst (λ n. n < length s.setup.plan) (sym is) sim.job;
   at_save = saved;
   saved = sim.saved ∙ ap (λ job. last_save s.setup job s.header.turns) reach;
-  sound = subst (λ job. IsSound s.setup.design (moment_in s.setup job s.header.turns).state) reach sim.sound;
+  sound = subst (λ job. AreSound s.setup job s.header.turns) reach sim.sound;
   run = subst (λ job. IsRunAt s.setup job s.header.turns s.header s.text) reach sim.at.run;
   held = full refl (subst (λ job. Stands s.setup job s.header.turns s.pages) reach sim.at.stands);
 }

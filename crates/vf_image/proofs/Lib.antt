@@ -4,4 +4,5 @@ pub mod ImageLemmas
 pub mod ForkLemmas
 pub mod BaseLemmas
 pub mod CountLemmas
+pub mod OwnLemmas
 pub mod CallerLemmas

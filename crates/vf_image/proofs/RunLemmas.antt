@@ -8,7 +8,7 @@ use Rattle.vf_design.specs.Words.{machine_of, words_of}
 use Rattle.vf_design.proofs.CallerLemmas.{length-words_of, start_sound}
 use Rattle.vf_jobs.specs.Setup.{Conditions, IsSetup}
 use Rattle.vf_pages.specs.Pages.{Pages, entry, word_of, word_or}
-use Rattle.vf_image.specs.Runs.{stimulus_of, limits_for, moment_in, Stands, IsAt}
+use Rattle.vf_image.specs.Runs.{stimulus_of, limits_for, moment_in, AreSound, Stands, IsAt}
 use Rattle.vf_image.specs.Simulators.{Simulator, IsSimulator, contents}
 
 -- no page is held, and the words are those at time zero
@@ -34,12 +34,14 @@ at_time_zero c job pages kept zero none = record {
 }
 
 -- the state at time zero is sound
-pub sound_at_zero : (c : Conditions) (job : Job) → IsSetup c → IsSound c.design (moment_in c job 0).state
-sound_at_zero c job kept =
-    subst (λ (now : Moment State). IsSound c.design now.state) (sym (moment_at-zero (machine_of c.design) (stimulus_of c job) (limits_for c job))) (start_sound c.design kept.formed)
+pub sound_at_zero : (c : Conditions) (job : Job) → IsSetup c → AreSound c job 0
+sound_at_zero c job kept j below =
+    let first : 0 ≡ j = omega (arith, below) in
+    subst (λ n. IsSound c.design (moment_in c job n).state) first
+    (subst (λ (now : Moment State). IsSound c.design now.state) (sym (moment_at-zero (machine_of c.design) (stimulus_of c job) (limits_for c job))) (start_sound c.design kept.formed))
 
 -- the word at an address of a simulator's pages is that of its state
 pub word_is : (s : Simulator) (at : ℕ) → IsSimulator s → at < length (contents s) → word_of s.pages at ≡ slice_index (contents s) at
 word_is s at sim below =
-    let long = length-words_of s.setup.design (moment_in s.setup s.job s.header.turns).state sim.sound in
+    let long = length-words_of s.setup.design (moment_in s.setup s.job s.header.turns).state (sim.sound s.header.turns (omega arith)) in
     sim.at.stands.words at (omega (arith, below, long))

@@ -19,7 +19,7 @@ use Rattle.vf_jobs.specs.Kinds.{save_of}
 use Rattle.vf_pages.specs.Pages.{Pages, entry}
 use Rattle.vf_pages.specs.Writes.{written, touches, address, AreWrites}
 use Rattle.vf_pages.specs.Calls.{Wrote}
-use Rattle.vf_image.specs.Runs.{stimulus_of, limits_for, moment_in, text_in, words_in, turn_in, last_save, GoesPast, Stands, IsAt}
+use Rattle.vf_image.specs.Runs.{stimulus_of, limits_for, moment_in, text_in, words_in, turn_in, last_save, AreSound, GoesPast, Stands, IsAt}
 use Rattle.vf_image.specs.Runs as runs
 use Rattle.vf_image.specs.Simulators.{Simulator, IsSimulator, IsNext}
 
@@ -39,7 +39,7 @@ words_written before words (write ∷ more) a all long =
     ap (written more a) (word_set words a write.at write.word (omega (arith, all.0, long)))
     ∙ words_written before (slice_set words write.at write.word) more a all.2 (length-set words write.at write.word ∙ long)
 
-same_test : (a b : ℕ) → (a == b) ≡ (b == a)
+pub same_test : (a b : ℕ) → (a == b) ≡ (b == a)
 same_test a b =
     ⊎_elim (λ same. eq-eqb a b same ∙ sym (eq-eqb b a (sym same))) (λ differ. ne_eqb a b differ ∙ sym (ne_eqb b a (λ same. differ (sym same)))) (cases_eq a b)
 
@@ -117,10 +117,15 @@ module _ (s : Simulator) (turn : Turn) (pages : Pages) (sim : IsSimulator s) (ne
     stands = stands;
   })
 
-  pub sound_next : IsSound s.setup.design (moment_in s.setup s.job turn.header.turns).state
-  sound_next =
-      subst (λ n. IsSound s.setup.design (moment_in s.setup s.job n).state) (sym counted)
-      (subst (λ (now : Moment State). IsSound s.setup.design now.state) (sym after) next.sound)
+  pub sound_next : AreSound s.setup s.job turn.header.turns
+  sound_next j below =
+      ⊎_elim (λ lt. sim.sound j (omega (arith, lt)))
+      (λ ge.
+      let counts : turn.header.turns ≡ suc s.header.turns = counted in
+      let last : suc s.header.turns ≡ j = omega (arith, ge, below, counts) in
+      subst (λ n. IsSound s.setup.design (moment_in s.setup s.job n).state) last
+      (subst (λ (now : Moment State). IsSound s.setup.design now.state) (sym after) next.sound))
+      (cases_lt j (suc s.header.turns))
 
   pub saves_next : save_of turn.mark ≡ last_save s.setup s.job turn.header.turns
   saves_next = ap save_of next.mark ∙ ap (last_save s.setup s.job) (sym counted)
@@ -139,7 +144,7 @@ rising words (write ∷ more) from limit r all long =
 -- the kernel's writes are writes to the simulator's pages
 pub next_writes : (s : Simulator) (turn : Turn) → IsSimulator s → IsNext s turn → AreWrites (length s.pages.zero) turn.writes.items
 next_writes s turn sim next =
-    let long = length-words_of s.setup.design (moment_in s.setup s.job s.header.turns).state sim.sound in
+    let long = length-words_of s.setup.design (moment_in s.setup s.job s.header.turns).state (sim.sound s.header.turns (omega arith)) in
     let first = length-words_of s.setup.design start (start_sound s.setup.design sim.setup.formed) in
     let zero : length s.pages.zero ≡ length (words_of s.setup.design start) = ap length (sim.at.stands.zero ∙ sim.setup.zero) in
     rising (words_in s.setup s.job s.header.turns) turn.writes.items 0 (length s.pages.zero) next.writes.rises next.writes.change (omega (arith, long, first, zero))

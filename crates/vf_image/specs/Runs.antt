@@ -1,5 +1,5 @@
 -- The solo run of a job, and what of it a simulator or an image has (docs/FARM.md, "Simulators and images").
-use Rattle.std.specs.Prelude.{◌≡◌, ℕ, zero, suc, ◌<◌, Bool, false, List, Option, Some, None, slice_index, is_some}
+use Rattle.std.specs.Prelude.{◌≡◌, ℕ, zero, suc, ◌<◌, ◌≤◌, Bool, false, List, Option, Some, None, slice_index, is_some}
 use Rattle.vf_base.specs.declared.names.Job.{Job}
 use Rattle.vf_base.specs.declared.names.Job.TheVariants.{Reach, Finish}
 use Rattle.vf_base.specs.declared.names.NodeNo.{NodeNo}
@@ -9,7 +9,7 @@ use Rattle.vf_base.specs.declared.run.SaveKind.{SaveKind}
 use Rattle.vf_machine.specs.Run.{Moment, Turned, moment_at, text_at, turn_at, mark_at, words_at, is_ending}
 use Rattle.vf_machine.specs.Pages.{is_touched, pages_touched}
 use Rattle.vf_design.specs.Program.{word_count}
-use Rattle.vf_design.specs.State.{State}
+use Rattle.vf_design.specs.State.{State, IsSound}
 use Rattle.vf_design.specs.Words.{machine_of}
 use Rattle.vf_plan.specs.Paths.{joined}
 use Rattle.vf_jobs.specs.Jobs.{node_of}
@@ -37,6 +37,10 @@ words_in c job k = words_at (machine_of c.design) (stimulus_of c job) (limits_fo
 
 abbrev pub turn_in : Conditions → Job → ℕ → Turned State
 turn_in c job k = turn_at (machine_of c.design) (stimulus_of c job) (limits_for c job) k
+
+-- the states up to turn k are sound
+abbrev pub AreSound : Conditions → Job → ℕ → Type 0
+AreSound c job k = (j : ℕ) → j ≤ k → IsSound c.design (moment_in c job j).state
 
 -- none of the first k turns ended the run
 abbrev pub GoesOn : Conditions → Job → ℕ → Type 0

@@ -4,12 +4,11 @@ use Rattle.vf_base.specs.declared.names.Job.{Job}
 use Rattle.vf_base.specs.declared.run.Header.{Header}
 use Rattle.vf_base.specs.declared.run.SaveKind.{SaveKind}
 use Rattle.vf_design.specs.declared.turn.Turn.{Turn}
-use Rattle.vf_design.specs.State.{IsSound}
 use Rattle.vf_design.specs.Turn.{IsTurn}
 use Rattle.vf_pages.specs.Pages.{Pages}
 use Rattle.vf_jobs.specs.Jobs.{node_of}
 use Rattle.vf_jobs.specs.Setup.{Conditions, IsSetup}
-use Rattle.vf_image.specs.Runs.{stimulus_of, last_save, moment_in, words_in, turn_in, IsAt}
+use Rattle.vf_image.specs.Runs.{stimulus_of, last_save, moment_in, words_in, turn_in, AreSound, IsAt}
 
 pub record Simulator : Type 0 where
   pub setup : Conditions
@@ -27,7 +26,7 @@ pub record IsSimulator (s : Simulator) : Type 0 where
   pub setup : IsSetup s.setup
   pub job : node_of s.job < length s.setup.plan
   pub saved : s.saved ≡ last_save s.setup s.job s.header.turns
-  pub sound : IsSound s.setup.design (moment_in s.setup s.job s.header.turns).state
+  pub sound : AreSound s.setup s.job s.header.turns
   pub at : IsAt s.setup s.job s.header.turns s.header s.text s.pages
 
 -- the words of its state, and whether a read went past the stimulus

@@ -41,7 +41,7 @@ impl<F: Frames> Model for Image<F> {
 impl<F: Frames> Image<F> {
     ghost use Rattle.vf_pages.specs.Calls.{KeptChanged, GivenBack};
     ghost use Rattle.vf_pages.specs.Pages.{IsPageAt, IsSorted};
-    ghost use Rattle.vf_image.specs.Images.{IsImage};
+    ghost use Rattle.vf_image.specs.Images.{IsImage, IsOwnCount};
 
     /// Keeps the state of a simulator whose job reaches a node and that is at the node's save point. The
     /// image has the simulator's frames.
@@ -137,9 +137,12 @@ impl<F: Frames> Image<F> {
         &self.text
     }
 
-    /// How many pages the image has of its own.
+    /// How many pages the image has of its own: all that its run has touched up to the save point. An
+    /// incremental one lacks those of them that the base's run has touched too and that have the same words
+    /// at both save points.
     pub fn own_pages(&self) -> u32
         ensures count { result ≡ length self.now.pages.pages }
+        ensures own { IsOwnCount self.now self.now.base result }
         ensures frames { length self.now.pages.holder.frames ≡ result }
         ensures sorted { IsSorted self.now.pages.pages }
     {

@@ -1,16 +1,19 @@
 -- Pages over those of a base.
-use Rattle.std.proofs.Common.{◌≡◌, ℕ, ◌+◌, Bool, true, false, not, cond, ◌==◌, List, [], ◌∷◌, ◌++◌, length, take, get_or, slice_set, filter, append_assoc, eq-eqb, ne_eqb, refl, sym, ap, subst, ◌∙◌, arith, ◌<◌, ◌≤◌, ⊎_elim}
-use Rattle.std.proofs.lemmas.Bool.{cases_eq, cases_lt, false≢true}
+use Rattle.std.proofs.Common.{◌≡◌, ℕ, zero, suc, ◌+◌, Bool, true, false, not, nat_eq, cond, ◌==◌, List, [], ◌∷◌, ◌++◌, length, take, get_or, slice_index, slice_set, filter, append_assoc, eq-eqb, ne_eqb, refl, sym, ap, subst, ◌∙◌, arith, ◌<◌, ◌≤◌, ⊎_elim}
+use Rattle.std.proofs.lemmas.Bool.{cases_eq, cases_lt, false≢true, eqb-true, and_parts, and_from}
+use Rattle.std.proofs.lemmas.Bool.Decides.{Decides-eqb}
+use Rattle.std.proofs.lemmas.Slice.Eq.{slice_eq-Decides}
+use Rattle.std.specs.Cmp.Lexicographic.{pointwise}
 use Rattle.vf_pages.proofs.Shuffles.{occurs-next, occurs-take}
 use Rattle.std.specs.Prelude.{Option, Some, None}
-use Rattle.std.proofs.lemmas.List.{append-nil, get_or-set_same, get_or-set_other}
+use Rattle.std.proofs.lemmas.List.{append-nil, ext_get_or, get_or-set_same, get_or-set_other}
 use Rattle.vf_frames.specs.Numbers.{has, rises, Loses}
 use Rattle.vf_pages.specs.declared.held.Held.{Held}
 use Rattle.vf_pages.specs.Pages.{Page, occurs, frames_in, pages_in, entry, or_entry, IsHeld}
 use Rattle.vf_pages.specs.Puts.{puts}
 use Rattle.vf_pages.proofs.Puts.{puts-entry-none, puts-entry-some}
 use Rattle.vf_pages.specs.Views.{page_of, pages_of}
-use Rattle.vf_pages.specs.Bases.{is_in_base, changed_from, left_of, is_marked}
+use Rattle.vf_pages.specs.Bases.{same_below, is_in_base, changed_from, left_of, is_marked}
 use Rattle.vf_pages.proofs.Entries.{rises-parts, rises-from, rises-less, entry-here, entry-other, entry-below}
 use Rattle.vf_pages.proofs.Frames.{lose-one, has-from}
 
@@ -146,3 +149,37 @@ puts_by own base q (Some e) is = puts-entry-some own base q e is
 
 pub entry-puts : (own base : List Page) (q : ℕ) → entry q (puts own base) ≡ or_entry (entry q own) (entry q base)
 entry-puts own base q = puts_by own base q (entry q own) refl
+
+-- ---- pages with the same words
+
+pub same_at : (xs ys : List ℕ) (n i : ℕ) → same_below xs ys n ≡ true → i < n → slice_index xs i ≡ slice_index ys i
+unfolding same_below
+same_at xs ys zero i h below = absurd (omega arith)
+same_at xs ys (suc n) i h below =
+    let parts = and_parts (same_below xs ys n) (slice_index xs n == slice_index ys n) h in
+    ⊎_elim
+    (λ lt. same_at xs ys n i parts.0 lt)
+    (λ ge.
+    let last : i ≡ n = omega (arith, ge, below) in
+    ap (slice_index xs) last ∙ eqb-true (slice_index xs n) (slice_index ys n) parts.1 ∙ sym (ap (slice_index ys) last))
+    (cases_lt i n)
+
+pub same_from : (xs ys : List ℕ) (n : ℕ) → ((i : ℕ) → i < n → slice_index xs i ≡ slice_index ys i) → same_below xs ys n ≡ true
+unfolding same_below
+same_from xs ys zero each = refl
+same_from xs ys (suc n) each =
+    and_from (same_below xs ys n) (slice_index xs n == slice_index ys n) (same_from xs ys n (λ i below. each i (omega (arith, below))))
+    (eq-eqb (slice_index xs n) (slice_index ys n) (each n (omega arith)))
+
+same_truth : (a b : Bool) → (a ≡ true → b ≡ true) → (b ≡ true → a ≡ true) → a ≡ b
+same_truth true b there back = sym (there refl)
+same_truth false true there back = back refl
+same_truth false false there back = refl
+
+-- whole pages are the same where they are at each index
+pub same_pages : (xs ys : List ℕ) → length xs ≡ 64 → length ys ≡ 64 → pointwise nat_eq xs ys ≡ same_below xs ys 64
+same_pages xs ys long other =
+    let decides = slice_eq-Decides Decides-eqb xs ys (pointwise nat_eq xs ys) refl in
+    same_truth (pointwise nat_eq xs ys) (same_below xs ys 64)
+    (λ on. same_from xs ys 64 (λ i below. ap (λ zs. slice_index zs i) (decides.0 on)))
+    (λ on. decides.1 (ext_get_or 0 xs ys (long ∙ sym other) (λ i below. same_at xs ys 64 i on (omega (arith, below, long)))))

@@ -1,12 +1,16 @@
 -- Pages over those of a base (docs/FARM.md, "Pages").
-use Rattle.std.specs.Prelude.{◌≡◌, ℕ, ◌≤◌, Bool, true, false, not, nat_eq, List, filter, slice_index_or, cond, Option, Some, None}
-use Rattle.std.specs.Cmp.Lexicographic.{pointwise}
+use Rattle.std.specs.Prelude.{◌≡◌, ℕ, zero, suc, ◌≤◌, Bool, true, false, ◌&&◌, ◌==◌, not, List, filter, slice_index, slice_index_or, cond, Option, Some, None}
 use Rattle.vf_pages.specs.Pages.{Page, entry, occurs, frames_in}
 
--- the same words stand in the page that the base has, if it has one
+-- whether two pages have the same words at each index below n
+unfoldable pub same_below : List ℕ → List ℕ → ℕ → Bool
+same_below words other zero = true
+same_below words other (suc n) = same_below words other n && (slice_index words n == slice_index other n)
+
+-- the same 64 words stand in the page that the base has, if it has one
 abbrev pub has_words : Option Page → List ℕ → Bool
 has_words None words = false
-has_words (Some b) words = pointwise nat_eq words b.words
+has_words (Some b) words = same_below words b.words 64
 
 -- the base has the page, with the same words
 abbrev pub is_in_base : List Page → Page → Bool

@@ -1,10 +1,9 @@
-ghost use Rattle.std.specs.Prelude.{◌≡◌, ℕ, ◌+◌, ◌≤◌, nat_eq, vec_len, vec_capacity, [], ◌∷◌, IfOk, IsTrue};
-ghost use Rattle.std.specs.Cmp.Lexicographic.{pointwise};
+ghost use Rattle.std.specs.Prelude.{◌≡◌, ℕ, ◌+◌, ◌≤◌, vec_len, vec_capacity, [], ◌∷◌, IfOk, IsTrue};
 ghost use Rattle.vf_frames.specs.Holders.{Keeps, SamePool};
 ghost use Rattle.vf_frames.specs.Calls.{SameRest, NotesGrow, NoWin};
 ghost use Rattle.vf_pages.specs.Pages.{IsSorted, IsHeld, entry, or_entry, occurs, frames_in};
 ghost use Rattle.vf_pages.specs.Views.{pages_of, page_of};
-ghost use Rattle.vf_pages.specs.Bases.{is_in_base, changed_from, left_of, is_marked, AreMarked, AreApart};
+ghost use Rattle.vf_pages.specs.Bases.{same_below, is_in_base, changed_from, left_of, is_marked, AreMarked, AreApart};
 
 use crate::held::Held;
 use crate::install::install;
@@ -15,7 +14,7 @@ use vf_base::Memory;
 use vf_frames::Frames;
 
 fn same_words(words: &[u64; 64], other: &[u64; 64]) -> bool
-    ensures { result ≡ pointwise nat_eq words.now other.now }
+    ensures { result ≡ same_below words.now other.now 64 }
 {
     words == other
 }

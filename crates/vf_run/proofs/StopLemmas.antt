@@ -1,5 +1,5 @@
 -- Where a run stands.
-use Rattle.std.proofs.Common.{◌≡◌, ℕ, zero, suc, ◌+◌, ◌<◌, ◌≤◌, Bool, true, false, ◌&&◌, ◌==◌, cond, nat_le, nat_lt, List, [], ◌∷◌, length, Option, Some, None, is_some, if◌then◌else◌, refl, sym, ap, ap₂, subst, ◌∙◌, arith, ⊎_elim}
+use Rattle.std.proofs.Common.{◌≡◌, ℕ, zero, suc, ◌+◌, ◌<◌, ◌≤◌, Bool, true, false, ◌&&◌, cond, nat_le, nat_lt, List, [], ◌∷◌, length, Option, Some, None, is_some, if◌then◌else◌, refl, sym, ap, subst, ◌∙◌, arith, ⊎_elim}
 use Rattle.std.proofs.lemmas.Bool.{false≢true, cases_lt, eq-eqb, ne_eqb, lt-ltb, le-ltb, leb-false}
 use Rattle.vf_base.specs.declared.names.Job.{Job}
 use Rattle.vf_base.specs.declared.names.Job.TheVariants.{Reach, Finish}
@@ -8,7 +8,6 @@ use Rattle.vf_base.specs.declared.run.Ending.{Ending}
 use Rattle.vf_base.specs.declared.run.Header.{Header}
 use Rattle.vf_base.specs.declared.run.Limits.{Limits}
 use Rattle.vf_base.specs.declared.run.SaveKind.{SaveKind}
-use Rattle.vf_machine.specs.declared.mark.Mark.{Mark}
 use Rattle.vf_machine.specs.declared.mark.Mark.TheVariants as marks
 use Rattle.vf_machine.specs.Machine.{Machine, Move, go, stop}
 use Rattle.vf_machine.specs.Run.{Moment, Turned, moment_at, mark_at, turn_of, free_turn, performed, sight_at, is_ending}
@@ -23,14 +22,12 @@ use Rattle.vf_jobs.specs.Kinds.{save_of, save_at, all_read, is_passed}
 use Rattle.vf_jobs.specs.Setup.{Conditions}
 use Rattle.vf_pages.specs.Pages.{Pages}
 use Rattle.vf_frames.specs.declared.holder.Holder.{Holder}
-use Rattle.vf_frames.specs.declared.holder.Note.{Note}
-use Rattle.vf_frames.specs.Calls.{SameRest}
 use Rattle.vf_frames.specs.Holders.{Keeps}
 use Rattle.vf_frames.proofs.CallerLemmas.{rest-then, notes-then, notes-none}
 use Rattle.vf_run.specs.declared.stop.Stop.{Stop}
 use Rattle.vf_run.specs.declared.stop.Stop.TheVariants.{AtSave, ReadPast, Ended, Short, Memory}
-use Rattle.vf_run.specs.Stops.{Stops, FellShort, HasKept, TokenAt, IsUnsaved, IsAnswer, misses_after, reads_in}
-use Rattle.vf_image.specs.Runs.{stimulus_of, limits_for, last_save, moment_in, turn_in, touched_in, IsAt, IsSavedAt, GoesPast}
+use Rattle.vf_run.specs.Stops.{Stops, HasKept, TokenAt, IsUnsaved, IsAnswer, misses_after, reads_in}
+use Rattle.vf_image.specs.Runs.{stimulus_of, limits_for, last_save, moment_in, touched_in, IsAt, IsSavedAt, GoesPast}
 use Rattle.vf_image.specs.Simulators.{Simulator, IsSimulator, IsNext, contents}
 use Rattle.vf_image.specs.Standing.{IsAtSave, IsPassing, IsEnding, Needs}
 use Rattle.vf_image.specs.Calls.{Stayed}
@@ -75,7 +72,7 @@ pub next_is : (s : Simulator) (design : Program) (stim : List ℕ) (limits : Lim
 next_is s design stim limits header turn sim design_is stim_is limits_is header_is said =
     let now = moment_in s.setup s.job s.header.turns in
     let d = subst (λ (p : Program). (t : State) → IsSound p t → words_of p t ≡ contents s → IsTurn p t (turn_of (machine_of p) stim limits (record { state = t; header = header })) turn) design_is said in
-    let here = d now.state sim.sound refl in
+    let here = d now.state (sim.sound s.header.turns (omega arith)) refl in
     let m = machine_of s.setup.design in
     subst (λ (turned : Turned State). IsTurn s.setup.design now.state turned turn)
     (λ i. turn_of m (stim_is i) (limits_is i) (record { state = now.state; header = (header_is ∙ sim.at.run.counts) i })) here
@@ -176,7 +173,7 @@ pub reads_is : (s : Simulator) (design : Program) (answer : Bool) → IsSimulato
     → ((t : State) → IsSound design t → words_of design t ≡ contents s → answer ≡ (machine_of design).at_read t) → answer ≡ reads_in s
 reads_is s design answer sim design_is said =
     let d = subst (λ (p : Program). (t : State) → IsSound p t → words_of p t ≡ contents s → answer ≡ (machine_of p).at_read t) design_is said in
-    d (moment_in s.setup s.job s.header.turns).state sim.sound refl
+    d (moment_in s.setup s.job s.header.turns).state (sim.sound s.header.turns (omega arith)) refl
 
 pub answer_unread : (s : Simulator) (node : NodeNo) (answer : Bool) → IsSimulator s → s.job ≡ Reach node → (s.header.reads ≡ length (stimulus_of s.setup s.job) → ⊥) → answer ≡ false
     → IsAnswer s.setup s.job s.header.turns answer

@@ -1,10 +1,9 @@
-use Rattle.std.proofs.Common.{◌∙◌, nat_eq, sym, ap, ap₂}
-use Rattle.std.specs.Cmp.Lexicographic.{pointwise}
+use Rattle.std.proofs.Common.{◌∙◌, sym, ap, ap₂}
 use Rattle.std.specs.Prelude.{Some}
 use Rattle.vf_pages.specs.declared.held.Held.{Held}
 use Rattle.vf_pages.specs.Views.{page_of, pages_of}
 use Rattle.vf_pages.specs.Contents.{content_words}
-use Rattle.vf_pages.specs.Bases.{has_words}
+use Rattle.vf_pages.specs.Bases.{same_below, has_words}
 use Rattle.vf_pages.proofs.Lookups.{held-place, entry-gap}
 use Rattle.vf_pages.proofs.base.is_in_base.Goals as goal
 
@@ -15,7 +14,7 @@ returns-in-Ok c =
     let there = c.index-base-place.result in
     let found = held-place base c.in-Ok.place one.page.0 there c.requires c.in-Ok.ensures ∙ ap (λ (h : Held). Some (page_of h)) (sym c.index-base-place.is) in
     let other = c.words-in-Ok.ensures ∙ ap (λ (h : Held). content_words h.content) (sym c.index-base-place.is) in
-    c.same_words.ensures ∙ ap₂ (pointwise nat_eq) c.words.ensures other
+    c.same_words.ensures ∙ ap₂ (λ words there. same_below words there 64) c.words.ensures other
     ∙ sym (ap (λ e. has_words e (content_words one.content)) found)
 
 pub returns-in-Err : goal.returns-in-Err

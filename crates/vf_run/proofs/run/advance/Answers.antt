@@ -1,4 +1,4 @@
-use Rattle.std.proofs.Common.{◌≡◌, ◌≤◌, ◌∙◌, suc, true, List, ◌∷◌, sym, ap, subst, refl, arith}
+use Rattle.std.proofs.Common.{◌≡◌, ◌∙◌, suc, true, List, ◌∷◌, ap, subst, arith}
 use Rattle.vf_base.specs.declared.run.Header.{Header}
 use Rattle.vf_frames.specs.declared.holder.Holder.{Holder}
 use Rattle.vf_frames.specs.Holders.{Accounts}

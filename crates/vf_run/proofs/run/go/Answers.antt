@@ -1,4 +1,4 @@
-use Rattle.std.proofs.Common.{◌≡◌, ◌∙◌, refl, sym, ap, ap₂, arith}
+use Rattle.std.proofs.Common.{◌∙◌, refl, ap, ap₂, arith}
 use Rattle.vf_base.specs.Count.{Count}
 use Rattle.vf_frames.proofs.CallerLemmas.{keeps-then, pool-then}
 use Rattle.vf_image.specs.Runs.{limits_for}
