@@ -19,3 +19,6 @@ mod tables;
 pub use next::Next;
 pub use records::Records;
 pub use row::{Attempt, HeldImage};
+
+#[cfg(test)]
+mod tests;
