@@ -1,7 +1,7 @@
 -- Ready jobs, and the nearest image that fits.
 use Rattle.std.proofs.Common.{◌≡◌, ℕ, zero, suc, ◌+◌, ◌<◌, ◌≤◌, Bool, true, false, ◌&&◌, ◌||◌, ◌==◌, not, if◌then◌else◌, List, [], ◌∷◌, ◌++◌, length, take, drop, map, Option, Some, None, IfSome, option_map, refl, sym, ◌∙◌, ap, ap₂, subst, arith, slice_get, get_or, unwrap_or}
 use Rattle.std.specs.List.{list_any, find, All}
-use Rattle.std.proofs.lemmas.Bool.{false≢true}
+use Rattle.std.proofs.lemmas.Bool.{false≢true, and_parts}
 use Rattle.std.proofs.lemmas.Option.{slice_get_within, slice_get-map}
 use Rattle.vf_base.specs.declared.names.Job.{Job}
 use Rattle.vf_base.specs.declared.names.Job.TheVariants.{Reach, Finish}
@@ -15,12 +15,13 @@ use Rattle.vf_jobs.specs.Jobs as jobs
 use Rattle.vf_jobs.specs.Jobs.{node_of, node_no, first_fitting, holds_fitting, sources}
 use Rattle.vf_jobs.specs.Setup.{Conditions}
 use Rattle.vf_journal.specs.declared.entry.Kind.TheVariants.{Unknown}
-use Rattle.vf_journal.specs.Records.{Held, Records, is_job, is_known, is_ready, is_idle, is_over, image_of, some_job}
+use Rattle.vf_journal.specs.Records.{Held, Stage, idle, running, deferred, over, Records, is_job, is_known, is_ready, is_idle, is_over, image_of, some_job}
 use Rattle.vf_records.specs.declared.row.HeldImage.{HeldImage}
 use Rattle.vf_records.specs.declared.row.Progress.{Progress}
 use Rattle.vf_records.specs.declared.row.Progress.TheVariants as rows
 use Rattle.vf_records.specs.declared.tables.Tables.{Tables}
-use Rattle.vf_journal.specs.Journal.{first_ready}
+use Rattle.vf_journal.specs.Journal.{IsGivenUp, first_ready}
+use Rattle.vf_journal.specs.Farm.{Farm}
 use Rattle.vf_records.specs.declared.next.Next.TheVariants as nexts
 use Rattle.vf_records.specs.Account.{Account, farm_of, records_in, is_left, next_of, next_job_of}
 use Rattle.vf_records.specs.Tables.{records_of, held_of, is_over_progress, is_idle_progress, AreTables}
@@ -184,3 +185,16 @@ ready_next a job e = found_passes (is_ready (farm_of a.setup) (records_in a)) (j
 
 pub ready_in : (s : Conditions) (r : Records) (job : Job) → next_of (first_ready (farm_of s) r) (is_left s r) ≡ nexts.Job job → is_ready (farm_of s) r job ≡ true
 ready_in s r job e = found_passes (is_ready (farm_of s) r) (jobs.jobs s.plan) job (next_some (first_ready (farm_of s) r) (is_left s r) job e)
+
+-- a ready job has not started
+pub idle_ready : (s : Conditions) (r : Records) (job : Job) → is_ready (farm_of s) r job ≡ true → is_idle (r.stages job) ≡ true
+idle_ready s r job h =
+    (and_parts (is_idle (r.stages job)) (jobs.is_ready s.plan (λ n. is_known (r.kinds n)) job)
+    (and_parts (is_job s.plan job) (is_idle (r.stages job) && jobs.is_ready s.plan (λ n. is_known (r.kinds n)) job) h).1).0
+
+-- a job that has not started is given up at turn 0
+pub given_up_idle : {S : Type 0} (f : Farm S) (job : Job) (stage : Stage) → is_idle stage ≡ true → IsGivenUp f job 0 stage
+given_up_idle f job idle h = refl
+given_up_idle f job (running attempt) h = absurd (false≢true h)
+given_up_idle f job deferred h = absurd (false≢true h)
+given_up_idle f job (over tells) h = absurd (false≢true h)
