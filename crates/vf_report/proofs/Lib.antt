@@ -1,3 +1,5 @@
+mod WordLemmas
 mod LineLemmas
 mod DifferenceLemmas
 mod SummaryLemmas
+mod JournalLemmas

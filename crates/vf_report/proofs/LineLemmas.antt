@@ -1,7 +1,6 @@
 -- No part of a line but its end has a newline.
-use Rattle.std.proofs.Common.{◌≡◌, ◌≢◌, ℕ, zero, suc, ◌+◌, ◌/◌, ◌%◌, ◌==◌, nat_lt, Bool, true, false, not, List, [], ◌∷◌, ◌++◌, length, get_or, slice_index, Option, Some, None, codes, refl, inl, inr, arith}
+use Rattle.std.proofs.Common.{◌≡◌, ◌≢◌, ℕ, ◌/◌, ◌%◌, ◌==◌, Bool, true, false, not, List, [], ◌∷◌, ◌++◌, length, get_or, slice_index, Option, Some, None, codes, refl, inl, inr, arith}
 use Rattle.std.specs.Prelude.{decimal, if◌then◌else◌}
-use Rattle.std.specs.Fmt.{digits, digits_onto, digit_glyph}
 use Rattle.std.specs.List.{list_all}
 use Rattle.std.specs.Str.{bytes_eq}
 use Rattle.std.proofs.lemmas.Bool.{cases_lt}
@@ -17,6 +16,7 @@ use Rattle.vf_base.specs.declared.run.Outcome.TheVariants.{Done, Pages}
 use Rattle.vf_report.specs.Totals.{Totals}
 use Rattle.vf_report.specs.Texts.{ending_text, hex_text, first_difference, expect_text, outcome_text, test_text, summary_text}
 use Rattle.vf_report.specs.Laws.{HasNoNewline, IsLine}
+use Rattle.vf_report.proofs.WordLemmas.{is_inner, number_word}
 
 -- the test of one byte
 abbrev is_plain : ℕ → Bool
@@ -36,26 +36,12 @@ joined a b ha hb = All-append (λ byte. byte ≢ 10) a b ha hb
 labelled : (label text : List ℕ) → list_all is_plain label ≡ true → HasNoNewline text → HasNoNewline (label ++ text)
 labelled label text h ht = joined label text (literal label h) ht
 
--- a digit is not a newline
-glyph_plain : (upper : Bool) (d : ℕ) → digit_glyph upper d ≢ 10
-glyph_plain upper d =
-    elim (nat_lt d 10) as (λ b. (if b then 48 + d else (if upper then 55 + d else 87 + d)) ≢ 10) [
-      | true ↦ λ e. omega arith
-      | false ↦ elim upper as (λ b. (if b then 55 + d else 87 + d) ≢ 10) [ true ↦ λ e. omega arith | false ↦ λ e. omega arith ]
-    ]
-
-digits_onto_plain : (k base : ℕ) (upper : Bool) (n : ℕ) (acc : List ℕ) → HasNoNewline acc → HasNoNewline (digits_onto k base upper n acc)
-digits_onto_plain zero base upper n acc h = h
-digits_onto_plain (suc k) base upper n acc h =
-    let more : HasNoNewline (digit_glyph upper (n % base) ∷ acc) = All-cons (λ byte. byte ≢ 10) (digit_glyph upper (n % base)) acc (glyph_plain upper (n % base)) h in
-    elim (n / base == 0) as (λ b. HasNoNewline (if b then digit_glyph upper (n % base) ∷ acc else digits_onto k base upper (n / base) (digit_glyph upper (n % base) ∷ acc))) [
-      | true ↦ more
-      | false ↦ digits_onto_plain k base upper (n / base) (digit_glyph upper (n % base) ∷ acc) more
-    ]
+-- a word has no newline
+inner_plain : (byte : ℕ) → is_inner byte ≡ true → byte ≢ 10
+inner_plain byte h e = grind (arith, nat_tests, h, e)
 
 decimal_plain : (n : ℕ) → HasNoNewline (decimal n)
-unfolding digits
-decimal_plain n = digits_onto_plain 64 10 false n [] (All-nil (λ byte. byte ≢ 10))
+decimal_plain n = λ k d within. inner_plain (get_or (decimal n) k d) (AllPass-from_list_all is_inner (decimal n) (number_word n) k d within)
 
 -- an element of a table without newlines, and 0 past its end
 table_plain : (table : List ℕ) → HasNoNewline table → (k : ℕ) → slice_index table k ≢ 10

@@ -1,4 +1,5 @@
 pub mod Tested
 pub mod Totals
 pub mod Texts
+pub mod Journal
 pub mod Laws
