@@ -1,5 +1,5 @@
-//! Tests of the public calls of the edges: vf_ports, vf_adapters, vf_report, vf_top and vf_program. It has no
-//! code of its own, so that the crates that it tests are proved once.
+//! Tests of the public calls of the edges: vf_ports, vf_adapters, vf_report, vf_words, vf_top and vf_program. It
+//! has no code of its own, so that the crates that it tests are proved once.
 #![tactic(auto)]
 
 #[cfg(test)]
@@ -18,3 +18,5 @@ mod ports;
 mod program;
 #[cfg(test)]
 mod runs;
+#[cfg(test)]
+mod words;

@@ -1,0 +1,5 @@
+pub mod Answers
+pub mod Options
+pub mod Words
+pub mod Ranges
+pub mod Pages
