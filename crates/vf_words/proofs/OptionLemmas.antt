@@ -21,7 +21,8 @@ pub is_plain : is_simple vfarm ≡ true
 unfolding vfarm clap_on_literals
 is_plain = refl
 
-pub found : (app : App) (words : List (List ℕ)) (rows : List Row) → app ≡ vfarm → fault_of app words ≡ [] → rows ≡ matches_of app words → parsed words ≡ Ok rows
+pub found : (app : App) (words : List (List ℕ)) (rows : List Row) → app ≡ vfarm → fault_of app words ≡ [] → rows ≡ matches_of app words
+    → parsed words ≡ Ok rows
 unfolding parsed
 found app words rows e none is =
     let faultless : fault_of vfarm words ≡ [] = ap (λ (a : App). fault_of a words) (sym e) ∙ none in
@@ -32,11 +33,13 @@ refuses : {Y : Type 0} (kinds : Kinds) (kind : ErrorKind) (y : Y) → IsAmong ki
 refuses [] kind y among = absurd among
 refuses (x ∷ xs) kind y among = refl
 
-pub refused : (app : App) (words : List (List ℕ)) (error : Error) → app ≡ vfarm → HasKind (fault_of app words) error → kind_of error ≢ OutOfMemory → parsed words ≡ Err Refused
+pub refused : (app : App) (words : List (List ℕ)) (error : Error) → app ≡ vfarm → HasKind (fault_of app words) error
+    → kind_of error ≢ OutOfMemory → parsed words ≡ Err Refused
 unfolding parsed
 refused app words error e (inl memory) other = absurd (other memory)
 refused app words error e (inr among) other =
-    ap (λ (a : App). unless (fault_of a words) (matches_of vfarm words)) (sym e) ∙ refuses (fault_of app words) (kind_of error) (matches_of vfarm words) among
+    ap (λ (a : App). unless (fault_of a words) (matches_of vfarm words)) (sym e)
+    ∙ refuses (fault_of app words) (kind_of error) (matches_of vfarm words) among
 
 pub whole : with_rule (with_rule (fold with_option bare option_names) journal_rule) files_rule ≡ vfarm
 unfolding vfarm

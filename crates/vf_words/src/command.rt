@@ -14,7 +14,8 @@ pub enum Mode {
     Make,
 }
 
-/// The work that a command line asks for. Each number is in its range (docs/FORMATS.md, "Command words").
+/// The work that a command line asks for (docs/FORMATS.md, "Command words"). Each number is in its
+/// range.
 #[derive(Debug, Drop)]
 pub struct Command {
     pub mode: Mode,

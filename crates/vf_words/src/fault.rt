@@ -5,17 +5,18 @@ use std::alloc::{AllocError, AllocFailed};
 use thiserror::Error;
 use vf_base::{Memory, Text};
 
-/// Why the words of a command line are refused. They are looked for in this order, and their numbers in a
-/// fault line are 1 to 5.
+/// Why the words of a command line are refused. They are looked for in this order, and their numbers
+/// in a fault line are 1 to 5.
 #[derive(Debug, Drop, Error)]
 pub enum WordFault {
-    /// The words are not options, each at most once and with its value, and names of files: an unknown
-    /// option, a missing value, an option that stands twice, or help asked for behind the first word.
+    /// The words are not options, each at most once and with its value, and names of files: an
+    /// unknown option, a missing value, an option that stands twice, or help asked for behind the
+    /// first word.
     #[error("the words are not options with their values and names of files")]
     Refused,
-    /// The value of this option, which is told with its dashes, is no word of its list, or no decimal number in its
-    /// range. It is the first such option in the order mode, workers, pages, turns, output, slots,
-    /// evict, number.
+    /// The value of this option, which is told with its dashes, is no word of its list, or no
+    /// decimal number in its range. It is the first such option in the order mode, workers, pages,
+    /// turns, output, slots, evict, number.
     #[error("the value of an option is out of its range")]
     Range(Text),
     /// There are not exactly two files; in mode make, there is one.

@@ -1,11 +1,11 @@
-//! The ranges of the options that take a number, and what stands where one is left out (docs/FORMATS.md,
-//! "Command words").
+//! The ranges of the options that take a number, and what stands where one is left out
+//! (docs/FORMATS.md, "Command words").
 
 use vf_jobs::MOST_BUDGET;
 use vf_plan::limits::{MOST_OUTPUT, MOST_TURNS};
 
-/// The numbers that an option takes, both ends among them, and the number that stands where the option is
-/// left out.
+/// The numbers that an option takes, both ends among them, and the number that stands where the
+/// option is left out.
 #[derive(Clone, Copy, Debug, PartialEq, Eq)]
 pub struct Numbers {
     pub least: u64,

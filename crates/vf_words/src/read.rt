@@ -65,9 +65,9 @@ fn asks(words: &[String], long: &str, short: &str) -> bool
     }
 }
 
-/// Reads the words of a command line, without the program's name (docs/FORMATS.md, "Command words"). The
-/// answer is what they ask for, or their first fault; only `Memory` may come in place of either. Each number of a
-/// command is in its range.
+/// Reads the words of a command line, without the program's name (docs/FORMATS.md, "Command words").
+/// The answer is what they ask for, or their first fault; only `Memory` may come in place of either.
+/// Each number of a command is in its range, and two files are named.
 #[tactic(auto, unfolding(crate::specs::Words::command_of))]
 pub fn read_words(alloc: Global, words: &[String]) -> Result<Asked, WordFault>
     ensures asked { Gives result (command_of (map string_bytes words.now)) }

@@ -1,4 +1,4 @@
-use Rattle.std.proofs.Common.{◌≡◌, ◌∙◌, ap, fold, true, codes}
+use Rattle.std.proofs.Common.{◌≡◌, ◌∙◌, ℕ, List, ap, fold, true, codes}
 use Rattle.std.proofs.lemmas.Result.{IfOk-weaker}
 use Rattle.clap.specs.Simple.{App, Shape, app_of, app_of_fields, on_top, with_rule}
 use Rattle.vf_words.specs.Options.{bare, with_option, option_names, journal_rule, files_rule}
@@ -10,6 +10,10 @@ unnamed = on_top (λ (shape : Shape). record shape { no_binary_name = true })
 
 abbrev without_help : App → App
 without_help = on_top (λ (shape : Shape). record shape { disable_help_flag = true })
+
+-- the command with one more option
+abbrev also : List ℕ → App → App
+also name app = with_option app name
 
 pub returns : goal.returns
 returns c =
@@ -27,5 +31,16 @@ returns c =
     let e9 : app_of c.in_ok-command-9.command ≡ with_option (app_of c.in_ok-command-8.command) (codes "test") = c.in_ok-command-9.ensures in
     let e10 : app_of c.in_ok-command-10.command ≡ with_option (app_of c.in_ok-command-9.command) (codes "number") = c.in_ok-command-10.ensures in
     let options : app_of c.in_ok-command-10.command ≡ fold with_option bare option_names =
-    e10 ∙ ap (λ (a : App). with_option a (codes "number")) (e9 ∙ ap (λ (a : App). with_option a (codes "test")) (e8 ∙ ap (λ (a : App). with_option a (codes "evict")) (e7 ∙ ap (λ (a : App). with_option a (codes "top")) (e6 ∙ ap (λ (a : App). with_option a (codes "slots")) (e5 ∙ ap (λ (a : App). with_option a (codes "output")) (e4 ∙ ap (λ (a : App). with_option a (codes "turns")) (e3 ∙ ap (λ (a : App). with_option a (codes "pages")) (e2 ∙ ap (λ (a : App). with_option a (codes "workers")) (e1 ∙ ap (λ (a : App). with_option a (codes "mode")) (start)))))))))) in
-    IfOk-weaker c.with_rest.result _ _ (λ command e. e ∙ ap (λ (a : App). with_rule (with_rule a journal_rule) files_rule) options ∙ whole) c.with_rest.ensures
+    e10 ∙ ap (also (codes "number"))
+    (e9 ∙ ap (also (codes "test"))
+    (e8 ∙ ap (also (codes "evict"))
+    (e7 ∙ ap (also (codes "top"))
+    (e6 ∙ ap (also (codes "slots"))
+    (e5 ∙ ap (also (codes "output"))
+    (e4 ∙ ap (also (codes "turns"))
+    (e3 ∙ ap (also (codes "pages"))
+    (e2 ∙ ap (also (codes "workers"))
+    (e1 ∙ ap (also (codes "mode"))
+    start))))))))) in
+    IfOk-weaker c.with_rest.result _ _
+    (λ command e. e ∙ ap (λ (a : App). with_rule (with_rule a journal_rule) files_rule) options ∙ whole) c.with_rest.ensures
