@@ -1,18 +1,15 @@
 -- What a run that is settled before any read past its stimulus comes to on a longer stimulus too.
-use Rattle.std.proofs.Common.{◌≡◌, ℕ, zero, suc, ◌+◌, ◌-◌, ◌<◌, ◌≤◌, Bool, true, false, ◌||◌, ◌&&◌, ◌==◌, List, ◌++◌, length, take, Option, Some, None, is_some, nat_le, nat_lt, refl, sym, ◌∙◌, ap, ap₂, subst, arith, ⊎_elim, if◌then◌else◌, length-append, unwrap_or}
+use Rattle.std.proofs.Common.{◌≡◌, ℕ, zero, suc, ◌+◌, ◌-◌, ◌<◌, ◌≤◌, Bool, true, false, ◌&&◌, ◌==◌, List, length, take, Option, Some, None, is_some, nat_le, nat_lt, refl, sym, ◌∙◌, ap, ap₂, subst, arith, ⊎_elim, if◌then◌else◌, length-append, unwrap_or}
 use Rattle.std.proofs.lemmas.Bool.{cases_lt, cases_eq, eq-eqb, eqb-true, ne_eqb, leb-true, leb-false, le-leb, lt-leb, ltb-true, ltb-false, lt-ltb, le-ltb, and_parts, false≢true}
-use Rattle.vf_base.specs.declared.names.Job.{Job}
 use Rattle.vf_base.specs.declared.names.Job.TheVariants.{Reach}
 use Rattle.vf_base.specs.declared.names.NodeNo.{NodeNo}
-use Rattle.vf_base.specs.declared.run.Header.{Header}
 use Rattle.vf_base.specs.declared.run.Limits.{Limits}
-use Rattle.vf_base.specs.declared.run.Outcome.{Outcome}
 use Rattle.vf_base.specs.declared.run.Outcome.TheVariants.{Done, Pages}
 use Rattle.vf_base.specs.declared.run.SaveKind.TheVariants.{Full}
 use Rattle.vf_machine.specs.Machine.{Machine}
-use Rattle.vf_machine.specs.Run.{Moment, Turned, moment_at, turn_at, turn_of, mark_at, text_at, free_turn, is_ending}
+use Rattle.vf_machine.specs.Run.{Moment, Turned, moment_at, turn_at, turn_of, mark_at, free_turn, is_ending}
 use Rattle.vf_machine.specs.Pages.{page_count, is_touched, pages_touched}
-use Rattle.vf_machine.specs.Search.{first, count_below}
+use Rattle.vf_machine.specs.Search.{count_below}
 use Rattle.vf_machine.specs.Solo.{turns_before_end, ending_of, solo}
 use Rattle.vf_machine.proofs.CallerLemmas.{is_touched-zero, count_below-ext, moment_at-suc, unlimited, within_limits, no_limit, same_free, written_grows, later, turns_counted, counts_once, before_limit, run_ends_lem, Finds, first_finds, KeepsWithin, solo_ended, solo_passed}
 use Rattle.vf_plan.specs.declared.plan.Node.{Node}
@@ -20,12 +17,12 @@ use Rattle.vf_plan.specs.Paths.{joined}
 use Rattle.vf_plan.specs.Rules.{IsPlan}
 use Rattle.vf_jobs.specs.Subtree.{is_below}
 use Rattle.vf_jobs.specs.Limits.{limits_of}
-use Rattle.vf_jobs.specs.Jobs.{node_of, fits, passing_fits, IsJob}
-use Rattle.vf_jobs.specs.Kinds.{Kind, saved, passed, ended, over, all_read, save_of, save_at, savepoint, turns_at_end, is_at, is_saved, is_passed, is_over, kind_at, kind_of, kind_of_node}
-use Rattle.vf_jobs.specs.Copies.{header_at_end, end_of_job, IsCopied, EndingIsCopied, PassingIsCopied}
+use Rattle.vf_jobs.specs.Jobs.{node_of}
+use Rattle.vf_jobs.specs.Kinds.{ended, over, all_read, save_of, save_at, savepoint, turns_at_end, is_at, is_saved, is_passed, is_over, kind_at, kind_of, kind_of_node}
+use Rattle.vf_jobs.specs.Copies.{end_of_job, EndingIsCopied, PassingIsCopied}
 use Rattle.vf_jobs.proofs.AlikeLemmas as alike
 use Rattle.vf_jobs.proofs.AlikeLemmas.{same_limited, turn_counted, free_within, reads_within, ends_at, ends_after}
-use Rattle.vf_jobs.proofs.DecisionLemmas.{Decided, decided_by, decides, no_test, third_test, fourth_test, by_none, by_third, by_fourth}
+use Rattle.vf_jobs.proofs.DecisionLemmas.{decided_by, decides, no_test, third_test, fourth_test, by_none, by_third, by_fourth}
 use Rattle.vf_jobs.proofs.SubtreeLemmas.{below, begins, begins_more, descends, same_front}
 use Rattle.vf_jobs.proofs.LimitLemmas.{limits_lower}
 

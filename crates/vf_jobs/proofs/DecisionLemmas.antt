@@ -1,8 +1,12 @@
 -- What is decided first.
-use Rattle.std.proofs.Common.{◌≡◌, ℕ, zero, suc, ◌+◌, ◌<◌, ◌≤◌, Bool, true, false, Option, Some, None, refl, sym, ◌∙◌, ap, arith, ⊎_elim, if◌then◌else◌}
-use Rattle.std.proofs.lemmas.Bool.{cases_lt}
+use Rattle.std.proofs.Common.{◌≡◌, ℕ, zero, suc, ◌+◌, ◌<◌, ◌==◌, nat_le, Bool, true, false, List, Option, Some, None, unwrap_or, refl, sym, ◌∙◌, ap, arith, ⊎_elim, if◌then◌else◌}
+use Rattle.std.proofs.lemmas.Bool.{false≢true, cases_lt, eqb-true, and_parts}
+use Rattle.vf_base.specs.declared.run.Limits.{Limits}
 use Rattle.vf_base.specs.declared.run.SaveKind.{SaveKind}
-use Rattle.vf_jobs.specs.Kinds.{Kind, saved, passed, ended, over, first_decided}
+use Rattle.vf_base.specs.declared.run.SaveKind.TheVariants.{Full}
+use Rattle.vf_machine.specs.Machine.{Machine}
+use Rattle.vf_machine.specs.Pages.{pages_touched}
+use Rattle.vf_jobs.specs.Kinds.{Kind, saved, passed, ended, over, first_decided, save_at, savepoint, turns_at_end, is_at, is_saved, is_passed, is_over, kind_at, kind_of}
 
 abbrev or_this : Option Kind → Option Kind → Option Kind
 or_this found here = elim found [ Some kind ↦ Some kind | None ↦ here ]
@@ -67,6 +71,13 @@ module _ (i t : ℕ) (kind : SaveKind) where
   no_test false false false true h = cc
   no_test false false false false h = (refl, refl, refl, refl)
 
+  pub first_test : (last : SaveKind) (a b c d : Bool) → pick a b c d ≡ Some (saved t last) → (a ≡ true) × (i ≡ t)
+  first_test last true b c d h = (refl, cc)
+  first_test last false true c d h = cc
+  first_test last false false true d h = cc
+  first_test last false false false true h = cc
+  first_test last false false false false h = cc
+
   pub third_test : (a b c d : Bool) → pick a b c d ≡ Some (ended t) → (a ≡ false) × (b ≡ false) × (c ≡ true) × (i ≡ t)
   third_test true b c d h = cc
   third_test false true c d h = cc
@@ -89,3 +100,18 @@ module _ (i t : ℕ) (kind : SaveKind) where
 
   pub by_fourth : (a b c d : Bool) → a ≡ false → b ≡ false → c ≡ false → d ≡ true → pick a b c d ≡ Some (over i)
   by_fourth a b c d ea eb ec ed = λ x. pick (ea x) (eb x) (ec x) (ed x)
+
+-- ---- a node that is saved
+
+at_is : (t : ℕ) (found : Option ℕ) → is_at t found ≡ true → found ≡ Some t
+at_is t None h = absurd (false≢true h)
+at_is t (Some s) h = ap Some (eqb-true s t h)
+
+-- a kind that is Saved tells the save point
+pub saved_is : {S : Type 0} (m : Machine S) (stim : List ℕ) (limits : Limits) (budget t : ℕ) (save : SaveKind)
+    → kind_of m stim limits budget ≡ Some (saved t save) → savepoint m stim limits ≡ Some t
+saved_is m stim limits budget t save e =
+    let found = decided_by (kind_at m stim limits budget) (turns_at_end m stim limits + 1) (saved t save) e in
+    let i = found.at in
+    let test = first_test i t (unwrap_or (save_at m stim limits i) Full) save (is_saved m stim limits budget i) (is_passed m stim limits i) (turns_at_end m stim limits == i) (is_over m stim limits budget i) found.here in
+    at_is i (savepoint m stim limits) (and_parts (is_at i (savepoint m stim limits)) (nat_le (pages_touched m stim limits i) budget) test.0).0 ∙ ap Some test.1

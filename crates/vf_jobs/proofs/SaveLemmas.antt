@@ -1,17 +1,21 @@
 -- Up to a save point a run is that of each run below it whose limits the checkpoint fits.
-use Rattle.std.proofs.Common.{◌≡◌, ℕ, zero, suc, ◌+◌, ◌-◌, ◌<◌, ◌≤◌, Bool, true, false, nat_le, if◌then◌else◌, List, ◌++◌, length, Option, Some, None, is_some, refl, sym, ◌∙◌, ap, subst, arith, length-append, ⊎_elim}
-use Rattle.std.proofs.lemmas.Bool.{leb-true, eqb-true, and_parts, cases_lt}
+use Rattle.std.proofs.Common.{◌≡◌, ℕ, zero, suc, ◌+◌, ◌-◌, ◌<◌, ◌≤◌, ◌&&◌, Bool, true, false, nat_le, if◌then◌else◌, List, ◌++◌, length, Option, Some, None, is_some, refl, sym, ◌∙◌, ap, ap₂, subst, arith, length-append, ⊎_elim}
+use Rattle.std.proofs.lemmas.Bool.{leb-true, le-leb, eqb-true, and_parts, cases_lt}
+use Rattle.vf_base.specs.declared.run.Header.{Header}
 use Rattle.vf_base.specs.declared.run.Limits.{Limits}
 use Rattle.vf_base.specs.declared.run.SaveKind.{SaveKind}
 use Rattle.vf_machine.specs.Machine.{Machine}
 use Rattle.vf_machine.specs.Run.{Moment, Turned, moment_at, turn_at, turn_of, free_turn, mark_at, is_ending, is_limit}
 use Rattle.vf_machine.specs.Solo.{turns_before_end}
 use Rattle.vf_machine.specs.Laws.{PrefixLaw, RunEnds, IsUnlimited, SameFor}
-use Rattle.vf_machine.proofs.CallerLemmas.{moment_at-suc, unlimited, within_limits, no_limit, same_free, reads_grow, written_grows, later, Finds, IsFirst, first_finds, turns_counted}
+use Rattle.vf_machine.proofs.CallerLemmas.{moment_at-suc, unlimited, within_limits, no_limit, same_free, reads_grow, written_grows, later, counts_once, Finds, IsFirst, first_finds, turns_counted}
+use Rattle.vf_plan.specs.declared.plan.Node.{Node}
 use Rattle.vf_plan.specs.Paths.{joined}
+use Rattle.vf_plan.specs.Rules.{IsPlan}
 use Rattle.vf_jobs.specs.Jobs.{fits}
 use Rattle.vf_jobs.specs.Kinds.{save_of, all_read, save_at, savepoint, SharesItsSavePoint}
-use Rattle.vf_jobs.proofs.SubtreeLemmas.{below, begins, descends, same_front}
+use Rattle.vf_jobs.specs.Subtree.{is_below}
+use Rattle.vf_jobs.proofs.SubtreeLemmas.{below, begins, begins_more, descends, same_front}
 
 -- ---- the run below
 
@@ -108,3 +112,64 @@ shares_save_point m law ends nodes top n la lb t k plan is e f h =
     let more = begins nodes top n plan (below nodes top (descends nodes plan) n is) in
     let a = joined nodes top in
     subst (λ b. SameFor m a la b lb k) (sym more.1) (until m law a more.0 la lb t (saves m a la lb t (ends a la) e f) k h)
+
+-- ---- of two save points on one way the upper one comes first
+
+pub all_at : {S : Type 0} (m : Machine S) (a : List ℕ) (la : Limits) (t : ℕ) → savepoint m a la ≡ Some t → (moment_at m a la t).header.reads ≡ length a
+all_at m a la t e =
+    let found : IsFirst (λ t. is_some (save_at m a la t)) (turns_before_end m a la + 1) t =
+    subst (Finds (λ t. is_some (save_at m a la t)) (turns_before_end m a la + 1)) e (first_finds (λ t. is_some (save_at m a la t)) (turns_before_end m a la + 1)) in
+    eqb-true (moment_at m a la t).header.reads (length a) (read_at m a la t found.passes)
+
+fits_less : (less more : Header) (limits : Limits) → less.turns ≤ more.turns → less.written ≤ more.written → fits limits more ≡ true → fits limits less ≡ true
+fits_less less more limits turns written h =
+    let two = and_parts (nat_le more.turns limits.turns) (nat_le more.written limits.output) h in
+    let high = leb-true more.turns limits.turns two.0 in
+    let wide = leb-true more.written limits.output two.1 in
+    ap₂ ◌&&◌ (le-leb less.turns limits.turns (omega (arith, high, turns))) (le-leb less.written limits.output (omega (arith, wide, written)))
+
+-- turn t of the one run comes before turn u of the other, and fits whatever that fits
+pub record IsBefore {S : Type 0} (m : Machine S) (a : List ℕ) (la : Limits) (t : ℕ) (b : List ℕ) (lb : Limits) (u : ℕ) : Type 0 where
+  pub earlier : t < u
+  pub serves : (limits : Limits) → fits limits (moment_at m b lb u).header ≡ true → fits limits (moment_at m a la t).header ≡ true
+
+before_by : {S : Type 0} (m : Machine S) (a : List ℕ) (la : Limits) (t : ℕ) (b : List ℕ) (lb : Limits) (u : ℕ)
+    → moment_at m a la t ≡ moment_at m b lb t → (moment_at m a la t).header.reads ≡ length a → (moment_at m b lb u).header.reads ≡ length b → length a < length b
+    → IsBefore m a la t b lb u
+before_by m a la t b lb u same whole all longer = record { earlier = before; serves = λ limits h. fits_less (moment_at m a la t).header (moment_at m b lb u).header limits turns written h }
+  where
+    before : t < u
+    before = ⊎_elim (λ lt. lt)
+        (λ ge.
+        let n = t - u in
+        let grown = later (λ now. now.header.reads) m b lb (λ now. reads_grow m b lb now) u n in
+        let end = ap (λ j. (moment_at m b lb j).header.reads) (let j : u + n ≡ t = omega (arith, ge) in j) in
+        let here = ap (λ now. now.header.reads) same in
+        absurd (omega (arith, grown, end, here, whole, all, longer)))
+        (cases_lt t u)
+
+    turns : (moment_at m a la t).header.turns ≤ (moment_at m b lb u).header.turns
+    turns =
+        let n = u - t in
+        let grown = later (λ now. now.header.turns) m b lb (λ now. (counts_once m b lb now).0) t n in
+        let end = ap (λ j. (moment_at m b lb j).header.turns) (let j : t + n ≡ u = let first = before in omega (arith, first) in j) in
+        let here = ap (λ now. now.header.turns) same in
+        omega (arith, grown, end, here)
+
+    written : (moment_at m a la t).header.written ≤ (moment_at m b lb u).header.written
+    written =
+        let n = u - t in
+        let grown = later (λ now. now.header.written) m b lb (λ now. written_grows m b lb now) t n in
+        let end = ap (λ j. (moment_at m b lb j).header.written) (let j : t + n ≡ u = let first = before in omega (arith, first) in j) in
+        let here = ap (λ now. now.header.written) same in
+        omega (arith, grown, end, here)
+
+pub upper_first : {S : Type 0} (m : Machine S) → PrefixLaw m → ((stim : List ℕ) (limits : Limits) → RunEnds m stim limits)
+    → (nodes : List Node) (top n : ℕ) (la lb : Limits) (t u : ℕ) → IsPlan nodes → is_below nodes top n ≡ true → (n ≡ top → ⊥)
+    → savepoint m (joined nodes top) la ≡ Some t → fits lb (moment_at m (joined nodes top) la t).header ≡ true → savepoint m (joined nodes n) lb ≡ Some u
+    → IsBefore m (joined nodes top) la t (joined nodes n) lb u
+upper_first m law ends nodes top n la lb t u plan is differ upper fit lower =
+    before_by m (joined nodes top) la t (joined nodes n) lb u
+    (shares_save_point m law ends nodes top n la lb t t plan is upper fit (omega arith)).moment
+    (all_at m (joined nodes top) la t upper) (all_at m (joined nodes n) lb u lower)
+    (begins_more nodes top n plan (below nodes top (descends nodes plan) n is) differ)

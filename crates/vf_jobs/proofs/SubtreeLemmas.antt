@@ -98,6 +98,22 @@ pub up : (nodes : List Node) (n at : ℕ) (node : Node) (parent : NodeNo) → sl
 up nodes n at node parent e p (itself same) = under node parent (ap (slice_get nodes) same ∙ e) p (itself refl)
 up nodes n at node parent e p (under other above there q below) = under other above there q (up nodes n above.0 node parent e p below)
 
+-- what is below a node is below each node above it
+further : (nodes : List Node) (top mid n : ℕ) → IsBelow nodes top mid → IsBelow nodes mid n → IsBelow nodes top n
+further nodes top mid n above (itself same) = subst (IsBelow nodes top) (sym same) above
+further nodes top mid n above (under node parent e p more) = under node parent e p (further nodes top mid parent.0 above more)
+
+pub further_below : (nodes : List Node) (top mid n : ℕ) → IsPlan nodes → mid < length nodes → is_below nodes top mid ≡ true → is_below nodes mid n ≡ true → is_below nodes top n ≡ true
+further_below nodes top mid n plan inside up down =
+    let falls = descends nodes plan in
+    let above = below nodes top falls mid up in
+    let first = top_first nodes top falls mid above in
+    is_above nodes top falls (omega (arith, first, inside)) n (further nodes top mid n above (below nodes mid falls n down))
+
+-- a node stands before those below it
+pub stands_before : (nodes : List Node) (top n : ℕ) → IsPlan nodes → is_below nodes top n ≡ true → top ≤ n
+stands_before nodes top n plan is = let falls = descends nodes plan in top_first nodes top falls n (below nodes top falls n is)
+
 pub begins : (nodes : List Node) (top n : ℕ) → IsPlan nodes → IsBelow nodes top n → (more : List ℕ) × (joined nodes n ≡ joined nodes top ++ more)
 begins nodes top n plan (itself e) = ([], ap (joined nodes) e ∙ sym (append-nil (joined nodes top)))
 begins nodes top n plan (under node parent at up below) =

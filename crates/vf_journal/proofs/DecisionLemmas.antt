@@ -8,7 +8,6 @@ use Rattle.vf_base.specs.declared.run.Limits.{Limits}
 use Rattle.vf_base.specs.declared.run.Outcome.TheVariants as outcomes
 use Rattle.vf_base.specs.declared.run.SaveKind.{SaveKind}
 use Rattle.vf_base.specs.declared.run.SaveKind.TheVariants.{Full}
-use Rattle.vf_machine.specs.Laws.{EndingIsStill}
 use Rattle.vf_machine.specs.Machine.{Machine, Move, go, stop}
 use Rattle.vf_machine.specs.Search.{any_below}
 use Rattle.vf_machine.specs.Run.{Moment, Turned, moment_at, text_at, turn_at, turn_of, free_turn, performed, sight_at, saved_mark, mark_at, is_ending}
@@ -19,7 +18,7 @@ use Rattle.vf_jobs.specs.Kinds.{Kind, saved, passed, ended, over, all_read, save
 use Rattle.vf_jobs.proofs.CallerLemmas.{decides}
 use Rattle.vf_journal.specs.Farm.{Farm, Point, stimulus, limits, point_in, last_save, is_at_save, is_at_pass, is_decided}
 use Rattle.vf_journal.specs.Journal.{pages_in}
-use Rattle.vf_journal.specs.Laws.{goes_on, ReadsGoOn}
+use Rattle.vf_journal.specs.Laws.{goes_on, ReadGoesOn}
 use Rattle.vf_journal.proofs.PointLemmas.{IsRunAt, below_suc, within_before}
 
 -- ---- searches
@@ -77,7 +76,7 @@ pub save_is : {S : Type 0} (m : Machine S) (stim : List ℕ) (limits : Limits) (
 save_is m stim limits zero = sym (either None (all_read m stim limits 0))
 save_is m stim limits (suc t) = refl
 
-saves : {S : Type 0} (m : Machine S) (stim : List ℕ) (limits : Limits) (t : ℕ)
+pub saves : {S : Type 0} (m : Machine S) (stim : List ℕ) (limits : Limits) (t : ℕ)
     → is_some (save_at m stim limits t) ≡ (all_read m stim limits t && is_some (last_save m stim limits t))
 saves m stim limits t = ap is_some (save_is m stim limits t) ∙ save_by (all_read m stim limits t) (last_save m stim limits t)
 
@@ -219,7 +218,7 @@ outcome_ended f job k now run ends =
 
 -- an ending changes no state
 abbrev pub Stands : {S : Type 0} → Machine S → Type 0
-Stands m = (stim : List ℕ) (limits : Limits) (k : ℕ) → is_ending (mark_at m stim limits k) ≡ true → EndingIsStill m stim limits k
+Stands m = (stim : List ℕ) (limits : Limits) (k : ℕ) → is_ending (mark_at m stim limits k) ≡ true → (moment_at m stim limits (suc k)).state ≡ (moment_at m stim limits k).state
 
 none_below : (p : ℕ → Bool) (n : ℕ) → ((i : ℕ) → p i ≡ false) → any_below p n ≡ false
 unfolding any_below
@@ -242,7 +241,7 @@ pages_at_end f job k stands ends =
     let m = f.machine in
     let stim = stimulus f job in
     let lim = limits f job in
-    let still = (stands stim lim k ends).state in
+    let still = stands stim lim k ends in
     count_below-ext (is_touched m stim lim (suc k)) (is_touched m stim lim k) (page_count (m.words m.start))
     (λ page _. is_touched-suc m stim lim k page
     ∙ or_none (is_touched m stim lim k page) (page_differs (m.words (moment_at m stim lim k).state) (m.words (moment_at m stim lim (suc k)).state) page)
@@ -255,14 +254,15 @@ passing_goes f job k now stands run passes =
     false_from_ne_true (is_ending (mark_at f.machine (stimulus f job) (limits f job) k))
     (λ ends. let same = pages_at_end f job k stands ends in omega (arith, same, passes, run.within))
 
-pub outcome_passed : {S : Type 0} (f : Farm S) (job : Job) (k : ℕ) (now : Point S) → Stands f.machine → IsRunAt f job k now → f.budget < pages_in f job (suc k)
+pub outcome_passed : {S : Type 0} (f : Farm S) (job : Job) (k : ℕ) (now : Point S) → IsRunAt f job k now → is_ending (mark_at f.machine (stimulus f job) (limits f job) k) ≡ false
+    → f.budget < pages_in f job (suc k)
     → (outcome_of f.machine f.given f.budget f.nodes job ≡ outcomes.Pages (pages_in f job (suc k)))
     × (passing_turn f.machine (stimulus f job) (limits f job) f.budget ≡ Some (suc k))
-outcome_passed f job k now stands run passes =
+outcome_passed f job k now run on passes =
     let m = f.machine in
     let stim = stimulus f job in
     let lim = limits f job in
-    let goes = below_suc k (λ j. is_ending (mark_at m stim lim j) ≡ false) run.goes (passing_goes f job k now stands run passes) in
+    let goes = below_suc k (λ j. is_ending (mark_at m stim lim j) ≡ false) run.goes on in
     let after = ends_after m stim lim (suc k) goes in
     let test = lt-ltb f.budget (pages_touched m stim lim (suc k)) passes in (
       (solo_passed m stim lim f.budget k goes (keeps_within f job k run.within) test).outcome,
@@ -270,64 +270,88 @@ outcome_passed f job k now stands run passes =
           (record { below = omega (arith, after); passes = test; least = λ j h. keeps_within f job k run.within j (omega (arith, h)) }),
     )
 
--- ---- a turn that reads and ends the run
+-- ---- a turn that ends the run
 
 saved_goes_on : (save : Option SaveKind) → is_ending (saved_mark save) ≡ false
 saved_goes_on None = refl
 saved_goes_on (Some kind) = refl
 
-performed_goes : {S : Type 0} (m : Machine S) (now : Moment S) (move : Move S) → goes_on move ≡ true → is_ending (performed m now move).mark ≡ false
-performed_goes m now (go state text save) h = saved_goes_on save
-performed_goes m now (stop ending) h = absurd (false≢true h)
+ending_by : {S : Type 0} (P : Turned S → Type 0) (d t o : Bool) (x y z p : Turned S) → P x → P y → P z → (is_ending p.mark ≡ true → P p)
+    → is_ending (cond d x (cond t y (cond o z (cond d x p)))).mark ≡ true → P (cond d x (cond t y (cond o z (cond d x p))))
+ending_by P true t o x y z p px py pz pp h = px
+ending_by P false true o x y z p px py pz pp h = py
+ending_by P false false true x y z p px py pz pp h = pz
+ending_by P false false false x y z p px py pz pp h = pp h
 
-unread_by : {S : Type 0} (d t o : Bool) (x y z p : Turned S) (n : ℕ) → x.after.header.reads ≡ n → y.after.header.reads ≡ n → z.after.header.reads ≡ n
-    → is_ending p.mark ≡ false → is_ending (cond d x (cond t y (cond o z (cond d x p)))).mark ≡ true → (cond d x (cond t y (cond o z (cond d x p)))).after.header.reads ≡ n
-unread_by true t o x y z p n hx hy hz hp h = hx
-unread_by false true o x y z p n hx hy hz hp h = hy
-unread_by false false true x y z p n hx hy hz hp h = hz
-unread_by false false false x y z p n hx hy hz hp h = absurd (false≢true (sym hp ∙ h))
+-- it changes no state and writes nothing, and it reads nothing where a turn that reads does not end the run by itself
+pub record EndsAt {S : Type 0} (now : Moment S) (t : Turned S) : Type 0 where
+  pub state : t.after.state ≡ now.state
+  pub reads : t.after.header.reads ≡ now.header.reads
+  pub written : t.after.header.written ≡ now.header.written
 
--- it was ended by a limit, and has read nothing
-unread : {S : Type 0} (m : Machine S) (stim : List ℕ) (limits : Limits) (now : Moment S) → ReadsGoOn m → m.at_read now.state ≡ true
-    → is_ending (turn_of m stim limits now).mark ≡ true → (turn_of m stim limits now).after.header.reads ≡ now.header.reads
-unread m stim limits now reads at_read ends =
-    unread_by (m.drained now.state) (nat_le limits.turns now.header.turns) (nat_lt limits.output (free_turn m stim now).after.header.written)
-    _ _ _ (performed m now (m.move (sight_at m stim now) now.state)) now.header.reads refl refl refl
-    (performed_goes m now (m.move (sight_at m stim now) now.state) (reads (sight_at m stim now) now.state at_read)) ends
+performed_ends : {S : Type 0} (m : Machine S) (now : Moment S) (move : Move S) → (m.at_read now.state ≡ true → goes_on move ≡ true)
+    → is_ending (performed m now move).mark ≡ true → EndsAt now (performed m now move)
+performed_ends m now (go state text save) reads h = absurd (false≢true (sym (saved_goes_on save) ∙ h))
+performed_ends m now (stop ending) reads h = record { state = refl; reads = by (m.at_read now.state) reads; written = let n = now.header.written in omega arith }
+  where
+    by : (read : Bool) → (read ≡ true → false ≡ true) → now.header.reads + (if read then 1 else 0) ≡ now.header.reads
+    by true goes = absurd (false≢true (goes refl))
+    by false goes = omega arith
+
+pub ends_still : {S : Type 0} (m : Machine S) (stim : List ℕ) (limits : Limits) (now : Moment S)
+    → (m.at_read now.state ≡ true → goes_on (m.move (sight_at m stim now) now.state) ≡ true)
+    → is_ending (turn_of m stim limits now).mark ≡ true → EndsAt now (turn_of m stim limits now)
+ends_still m stim limits now reads ends =
+    ending_by (EndsAt now) (m.drained now.state) (nat_le limits.turns now.header.turns) (nat_lt limits.output (free_turn m stim now).after.header.written)
+    _ _ _ (performed m now (m.move (sight_at m stim now) now.state))
+    (record { state = refl; reads = refl; written = refl }) (record { state = refl; reads = refl; written = refl }) (record { state = refl; reads = refl; written = refl })
+    (performed_ends m now (m.move (sight_at m stim now) now.state) reads) ends
+
+performed_stands : {S : Type 0} (m : Machine S) (now : Moment S) (move : Move S) → is_ending (performed m now move).mark ≡ true → (performed m now move).after.state ≡ now.state
+performed_stands m now (go state text save) h = absurd (false≢true (sym (saved_goes_on save) ∙ h))
+performed_stands m now (stop ending) h = refl
+
+-- the law, for proofs that no law function can hand over to
+pub endings_stand : {S : Type 0} (m : Machine S) → Stands m
+endings_stand {S} m stim limits k ends =
+    let now = moment_at m stim limits k in
+    ap (λ (x : Moment S). x.state) (moment_at-suc m stim limits k)
+    ∙ ending_by (λ t. t.after.state ≡ now.state) (m.drained now.state) (nat_le limits.turns now.header.turns) (nat_lt limits.output (free_turn m stim now).after.header.written)
+    _ _ _ (performed m now (m.move (sight_at m stim now) now.state)) refl refl refl (performed_stands m now (m.move (sight_at m stim now) now.state)) ends
 
 found_before : (j : ℕ) (p : ℕ → Bool) (b : ℕ) (found : Option ℕ) → Finds p b found → b ≤ j → is_at j found ≡ false
 found_before j p b None finds h = refl
 found_before j p b (Some i) finds h = ne_eqb i j (λ same. omega (arith, same, h, finds.below))
 
-module _ {S : Type 0} (f : Farm S) (n : NodeNo) (stands : Stands f.machine) (reads : ReadsGoOn f.machine) where
+module _ {S : Type 0} (f : Farm S) (n : NodeNo) (stands : Stands f.machine) where
   abbrev s : List ℕ
   s = stimulus f (Reach n)
 
   abbrev l : Limits
   l = limits f (Reach n)
 
-  unpassed_by : (k : ℕ) (read : Bool) → f.machine.at_read (moment_at f.machine s l k).state ≡ read → is_ending (mark_at f.machine s l k) ≡ true
+  unpassed_by : (k : ℕ) (read : Bool) → ReadGoesOn f (Reach n) k → f.machine.at_read (moment_at f.machine s l k).state ≡ read → is_ending (mark_at f.machine s l k) ≡ true
       → is_passed f.machine s l k ≡ false → is_passed f.machine s l (suc k) ≡ false
-  unpassed_by k false e ends h =
+  unpassed_by k false reads e ends h =
       and_right (all_read f.machine s l (suc k)) (f.machine.at_read (moment_at f.machine s l (suc k)).state)
-      (ap f.machine.at_read (stands s l k ends).state ∙ e)
-  unpassed_by k true e ends h =
+      (ap f.machine.at_read (stands s l k ends) ∙ e)
+  unpassed_by k true reads e ends h =
       let same : (moment_at f.machine s l (suc k)).header.reads ≡ (moment_at f.machine s l k).header.reads =
-      ap (λ now. now.header.reads) (moment_at-suc f.machine s l k) ∙ unread f.machine s l (moment_at f.machine s l k) reads e ends in
-      ap₂ (λ r read. (r == length s) && read) same (ap f.machine.at_read (stands s l k ends).state) ∙ h
+      ap (λ now. now.header.reads) (moment_at-suc f.machine s l k) ∙ (ends_still f.machine s l (moment_at f.machine s l k) reads ends).reads in
+      ap₂ (λ r read. (r == length s) && read) same (ap f.machine.at_read (stands s l k ends)) ∙ h
 
-  unpassed : (k : ℕ) → is_ending (mark_at f.machine s l k) ≡ true → is_passed f.machine s l k ≡ false → is_passed f.machine s l (suc k) ≡ false
-  unpassed k ends h = unpassed_by k (f.machine.at_read (moment_at f.machine s l k).state) refl ends h
+  unpassed : (k : ℕ) → ReadGoesOn f (Reach n) k → is_ending (mark_at f.machine s l k) ≡ true → is_passed f.machine s l k ≡ false → is_passed f.machine s l (suc k) ≡ false
+  unpassed k reads ends h = unpassed_by k (f.machine.at_read (moment_at f.machine s l k).state) reads refl ends h
 
-  ended_here : (k t : ℕ) (now : Point S) → IsRunAt f (Reach n) k now → is_decided f (Reach n) (point_in f (Reach n) k) ≡ false → is_ending (mark_at f.machine s l k) ≡ true
+  ended_here : (k t : ℕ) (now : Point S) → ReadGoesOn f (Reach n) k → IsRunAt f (Reach n) k now → is_decided f (Reach n) (point_in f (Reach n) k) ≡ false → is_ending (mark_at f.machine s l k) ≡ true
       → turns_at_end f.machine s l ≡ t → (t ≡ k) ⊎ (t ≡ suc k) → kind_of f.machine s l f.budget ≡ Some (ended t)
-  ended_here k t now run undecided ends counts (inl same) =
+  ended_here k t now reads run undecided ends counts (inl same) =
       let m = f.machine in
       let parts = or_parts (is_at_save f (Reach n) (point_in f (Reach n) k)) (is_at_pass f (Reach n) (point_in f (Reach n) k)) undecided in
       kind_here f n k now (ended t) run
       (by_third k (save_kind f n k) (is_saved m s l f.budget k) (is_passed m s l k) (turns_at_end m s l == k) (is_over m s l f.budget k)
       (not_saved f n k parts.0) parts.1 (eq-eqb (turns_at_end m s l) k (counts ∙ same)) ∙ ap (λ i. Some (ended i)) (sym same))
-  ended_here k t now run undecided ends counts (inr more) =
+  ended_here k t now reads run undecided ends counts (inr more) =
       let m = f.machine in
       let parts = or_parts (is_at_save f (Reach n) (point_in f (Reach n) k)) (is_at_pass f (Reach n) (point_in f (Reach n) k)) undecided in
       let end_is = ends_at m s l k run.goes ends in
@@ -340,19 +364,19 @@ module _ {S : Type 0} (f : Farm S) (n : NodeNo) (stands : Stands f.machine) (rea
       let later : decide f n (suc k) ≡ Some (ended (suc k)) =
       by_third (suc k) (save_kind f n (suc k)) (is_saved m s l f.budget (suc k)) (is_passed m s l (suc k)) (turns_at_end m s l == suc k) (is_over m s l f.budget (suc k))
       (and_left (is_at (suc k) (savepoint m s l)) (nat_le (pages_touched m s l (suc k)) f.budget) (found_before (suc k) p b (savepoint m s l) (first_finds p b) (omega (arith, end_is))))
-      (unpassed k ends parts.1) (eq-eqb (turns_at_end m s l) (suc k) (counts ∙ more)) in
+      (unpassed k reads ends parts.1) (eq-eqb (turns_at_end m s l) (suc k) (counts ∙ more)) in
       decides (decide f n) (turns_at_end m s l + 1) (suc k) (ended t) (omega (arith, counts, more))
       (below_suc k (λ j. decide f n j ≡ None) (none_yet f n k now run) here)
       (later ∙ ap (λ i. Some (ended i)) (sym more))
 
   -- a run that ends before it is decided makes the kind
-  pub kind_ended : (k : ℕ) (now : Point S) → IsRunAt f (Reach n) k now → is_decided f (Reach n) (point_in f (Reach n) k) ≡ false
+  pub kind_ended : (k : ℕ) (now : Point S) → ReadGoesOn f (Reach n) k → IsRunAt f (Reach n) k now → is_decided f (Reach n) (point_in f (Reach n) k) ≡ false
       → is_ending (mark_at f.machine s l k) ≡ true → kind_of f.machine s l f.budget ≡ Some (ended (turn_at f.machine s l k).after.header.turns)
-  kind_ended k now run undecided ends =
+  kind_ended k now reads run undecided ends =
       let m = f.machine in
       let end_is = ends_at m s l k run.goes ends in
       let counts = end_counts f n in
       let at_end : turns_at_end m s l ≡ (turn_at m s l k).after.header.turns = ap (λ j. (turn_at m s l j).after.header.turns) end_is in
-      ended_here k (turn_at m s l k).after.header.turns now run undecided ends at_end
+      ended_here k (turn_at m s l k).after.header.turns now reads run undecided ends at_end
       (⊎_elim (λ lt. inl (omega (arith, lt, counts.0, counts.1, at_end, end_is))) (λ ge. inr (omega (arith, ge, counts.0, counts.1, at_end, end_is)))
       (cases_lt (turn_at m s l k).after.header.turns (suc k)))

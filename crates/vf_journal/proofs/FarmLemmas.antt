@@ -41,15 +41,15 @@ use Rattle.vf_journal.proofs.StartLemmas.{run_from_image, find_holds, origin_ser
 
 -- ---- a job that runs after an entry has run before, or starts with it
 
-over_by : (b : Bool) (tells : Option Told) (s : Stage) (a : Attempt) → (if b then over tells else s) ≡ running a → s ≡ running a
+pub over_by : (b : Bool) (tells : Option Told) (s : Stage) (a : Attempt) → (if b then over tells else s) ≡ running a → s ≡ running a
 over_by true tells s a h = cc
 over_by false tells s a h = h
 
-deferred_by : (b : Bool) (s : Stage) (a : Attempt) → (if b then deferred else s) ≡ running a → s ≡ running a
+pub deferred_by : (b : Bool) (s : Stage) (a : Attempt) → (if b then deferred else s) ≡ running a → s ≡ running a
 deferred_by true s a h = cc
 deferred_by false s a h = h
 
-again_by : (s : Stage) (a : Attempt) → ready_again s ≡ running a → s ≡ running a
+pub again_by : (s : Stage) (a : Attempt) → ready_again s ≡ running a → s ≡ running a
 again_by idle a h = h
 again_by (running b) a h = h
 again_by deferred a h = cc
@@ -63,11 +63,11 @@ copies_running : {S : Type 0} (f : Farm S) (s : Option Spread) (r : Records) (jo
 copies_running f None r job a h = h
 copies_running f (Some s) r job a h = over_by (is_copied f r s job) _ (r.stages job) a h
 
-over_held : (job : Job) (tells : Option Told) (kind : Kind) (r : Records) → (with_over job tells kind r).held ≡ r.held
+pub over_held : (job : Job) (tells : Option Told) (kind : Kind) (r : Records) → (with_over job tells kind r).held ≡ r.held
 over_held (Reach n) tells kind r = refl
 over_held (Finish n) tells kind r = refl
 
-copies_held : {S : Type 0} (f : Farm S) (s : Option Spread) (r : Records) → (with_copies f s r).held ≡ r.held
+pub copies_held : {S : Type 0} (f : Farm S) (s : Option Spread) (r : Records) → (with_copies f s r).held ≡ r.held
 copies_held f None r = refl
 copies_held f (Some s) r = refl
 
@@ -104,7 +104,7 @@ goes_on_with f js seen r e kept guard solo alike =
     subst (λ more. IsJournal f free (js ++ e ∷ more) (after f seen r e)) (sym alike.entries)
     (subst (IsJournal f free (js ++ e ∷ consequences f (of_solo f) r e)) (sym alike.records) (journal.next e kept guard tt solo))
 
-module _ {S : Type 0} (f : Farm S) (plan : IsPlan f.nodes) (stands : Stands f.machine) (reads : ReadsGoOn f.machine) (js : List Entry) (w : World S) (kept : Kept f js w) where
+module _ {S : Type 0} (f : Farm S) (plan : IsPlan f.nodes) (stands : Stands f.machine) (reads : ReadsGoOn f) (js : List Entry) (w : World S) (kept : Kept f js w) where
   abbrev r : Records
   r = w.records
 
@@ -288,7 +288,7 @@ module _ {S : Type 0} (f : Farm S) (plan : IsPlan f.nodes) (stands : Stands f.ma
   solo_end_kind (Finish n) turn a runs may = tt
   solo_end_kind (Reach n) turn a runs may =
       let run = run_now (Reach n) a runs in
-      kind_ended f n stands reads (turns_at w (Reach n)) (w.runs (Reach n)) run (ap (is_decided f (Reach n)) (sym run.at) ∙ may.undecided) (ends_now (Reach n) turn a runs may)
+      kind_ended f n stands (turns_at w (Reach n)) (w.runs (Reach n)) (reads (Reach n) (turns_at w (Reach n))) run (ap (is_decided f (Reach n)) (sym run.at) ∙ may.undecided) (ends_now (Reach n) turn a runs may)
       ∙ ap (λ t. Some (solo.ended t)) (sym (turn_is (Reach n) turn a runs may))
 
   solo_end : (job : Job) (turn : ℕ) (a : Attempt) → IsRunning r job a → MayEnd f w job turn → journal.EndsSolo f job turn
@@ -361,7 +361,9 @@ module _ {S : Type 0} (f : Farm S) (plan : IsPlan f.nodes) (stands : Stands f.ma
   solo_over : (job : Job) (turn pages : ℕ) (a : Attempt) → IsRunning r job a → MayPassBudget f w job turn pages → journal.PassesSolo f job turn pages
   solo_over job turn pages a runs may =
       let k = turns_at w job in
-      let both = outcome_passed f job k (w.runs job) stands (run_now job a runs) (passes_now job turn pages a runs may) in
+      let passes = passes_now job turn pages a runs may in
+      let run = run_now job a runs in
+      let both = outcome_passed f job k (w.runs job) run (passing_goes f job k (w.runs job) stands run passes) passes in
       record {
         outcome = both.0 ∙ ap outcomes.Pages (sym (may.counted ∙ pages_are job a runs));
         passes = both.1 ∙ ap Some (let e : suc k ≡ turn + 1 = let now = may.now in omega (arith, now) in e);
@@ -376,7 +378,7 @@ module _ {S : Type 0} (f : Farm S) (plan : IsPlan f.nodes) (stands : Stands f.ma
       let passes = passes_now job turn pages a runs may in
       let goes : is_ending (next_turn f job p).mark ≡ false = ap (λ q. is_ending (next_turn f job q).mark) run.at ∙ passing_goes f job k p stands run passes in
       ap (λ b. if b then done_at f job p else outcomes.Pages (pages_next f job p)) goes
-      ∙ ap outcomes.Pages (pages_are job a runs) ∙ sym (outcome_passed f job k p stands run passes).0
+      ∙ ap outcomes.Pages (pages_are job a runs) ∙ sym (outcome_passed f job k p run (passing_goes f job k p stands run passes) passes).0
 
   tells_outcome : Outcome → Seen
   tells_outcome outcome = record { counts = seen.counts; ending = seen.ending; outcome = λ job. outcome }
@@ -483,7 +485,7 @@ begun_kept f = record {
   runs = λ job a h. let e : idle ≡ running a = h in cc;
 }
 
-all_kept : {S : Type 0} (f : Farm S) → IsPlan f.nodes → Stands f.machine → ReadsGoOn f.machine → {es : List Event} {js : List Entry} {w : World S} → Runs f es js w → Kept f js w
+all_kept : {S : Type 0} (f : Farm S) → IsPlan f.nodes → Stands f.machine → ReadsGoOn f → {es : List Event} {js : List Entry} {w : World S} → Runs f es js w → Kept f js w
 all_kept f plan stands reads farm.begun = begun_kept f
 all_kept f plan stands reads (farm.next {es} {js} {w} e runs may) = on_event f plan stands reads js w (all_kept f plan stands reads runs) e may
 

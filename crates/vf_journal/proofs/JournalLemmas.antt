@@ -188,22 +188,22 @@ module _ {S : Type 0} (f : Farm S) (r new : Records) (kept : Kept f r) (same_kin
 
 -- ---- each entry
 
-running_alive : (s : Stage) (a : Attempt) → s ≡ running a → is_over s ≡ false
+pub running_alive : (s : Stage) (a : Attempt) → s ≡ running a → is_over s ≡ false
 running_alive s a e = ap is_over e
 
-runs_alive : (s : Stage) → is_running s ≡ true → is_over s ≡ false
+pub runs_alive : (s : Stage) → is_running s ≡ true → is_over s ≡ false
 runs_alive idle h = refl
 runs_alive (running a) h = refl
 runs_alive deferred h = refl
 runs_alive (over t) h = absurd (false≢true h)
 
-idle_alive : (s : Stage) → is_idle s ≡ true → is_over s ≡ false
+pub idle_alive : (s : Stage) → is_idle s ≡ true → is_over s ≡ false
 idle_alive idle h = refl
 idle_alive (running a) h = refl
 idle_alive deferred h = refl
 idle_alive (over t) h = absurd (false≢true h)
 
-ready_alive : {S : Type 0} (f : Farm S) (r : Records) (job : Job) → is_ready f r job ≡ true → is_over (r.stages job) ≡ false
+pub ready_alive : {S : Type 0} (f : Farm S) (r : Records) (job : Job) → is_ready f r job ≡ true → is_over (r.stages job) ≡ false
 ready_alive f r job h =
     let a = and_parts (is_job f.nodes job) (is_idle (r.stages job) && jobs.is_ready f.nodes (λ n. is_known (r.kinds n)) job) h in
     let b = and_parts (is_idle (r.stages job)) (jobs.is_ready f.nodes (λ n. is_known (r.kinds n)) job) a.1 in

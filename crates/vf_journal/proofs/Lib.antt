@@ -6,4 +6,8 @@ pub mod JournalLemmas
 pub mod WholeLemmas
 pub mod FarmLemmas
 pub mod ReplayLemmas
+pub mod ImageLists
+pub mod HoldingLemmas
+pub mod AfterLemmas
+pub mod CallerLemmas
 mod Rows

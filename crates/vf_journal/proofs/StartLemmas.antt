@@ -1,5 +1,5 @@
 -- A job that starts from an image goes on from a point of its own solo run.
-use Rattle.std.proofs.Common.{◌≡◌, ℕ, zero, suc, ◌+◌, ◌-◌, ◌<◌, ◌≤◌, ◌==◌, ◌&&◌, ◌||◌, Bool, true, false, cond, if◌then◌else◌, List, [], ◌∷◌, length, length-append, drop, Option, Some, None, is_some, option_map, refl, sym, ◌∙◌, ap, ap₂, subst, arith}
+use Rattle.std.proofs.Common.{◌≡◌, ℕ, zero, suc, ◌+◌, ◌-◌, ◌<◌, ◌≤◌, ◌==◌, ◌&&◌, ◌||◌, Bool, true, false, cond, if◌then◌else◌, List, [], ◌∷◌, length, length-append, drop, Option, Some, None, is_some, IfSome, slice_get, option_map, refl, sym, ◌∙◌, ap, ap₂, subst, arith}
 use Rattle.std.specs.List.{list_any, find, All}
 use Rattle.std.proofs.Math.Path.{fun_ext}
 use Rattle.std.proofs.lemmas.Bool.{false≢true, eqb-true, eq-eqb, and_parts, or_left, or_right}
@@ -13,16 +13,19 @@ use Rattle.vf_machine.specs.Run.{Moment, moment_at, is_ending}
 use Rattle.vf_machine.specs.Pages.{page_count, page_differs, is_touched}
 use Rattle.vf_machine.specs.Laws.{SameFor}
 use Rattle.vf_machine.proofs.CallerLemmas.{is_touched-zero, is_touched-suc, later, reads_grow, count_below-ext, prefix, run_ends_lem}
-use Rattle.vf_plan.specs.Paths.{path}
+use Rattle.vf_plan.specs.declared.plan.Node.{Node}
+use Rattle.vf_plan.specs.Paths.{path, at_parent, grown, with_number}
+use Rattle.vf_plan.proofs.CallerLemmas.{path-at}
 use Rattle.vf_plan.specs.Rules.{IsPlan}
 use Rattle.vf_jobs.specs.Jobs as jobs
 use Rattle.vf_jobs.specs.Jobs.{node_of, node_no, fits, holds_fitting, first_fitting, sources}
 use Rattle.vf_jobs.specs.Kinds.{save_of}
 use Rattle.vf_jobs.specs.Subtree.{is_below}
-use Rattle.vf_jobs.proofs.CallerLemmas.{begins, below, descends, shares_save_point}
+use Rattle.vf_jobs.proofs.CallerLemmas.{begins, below, descends, stands_before, shares_save_point}
 use Rattle.vf_journal.specs.Farm.{Farm, Point, stimulus, limits, point_in, last_save, has_read_all, is_decided}
-use Rattle.vf_journal.specs.Records.{Held, Records, image_of}
+use Rattle.vf_journal.specs.Records.{Held, Records, is_job, image_of}
 use Rattle.vf_journal.specs.Effects.{Seen, origin_of}
+use Rattle.vf_journal.proofs.JobLemmas.{planned}
 use Rattle.vf_journal.proofs.PointLemmas.{IsRunAt}
 use Rattle.vf_journal.proofs.DecisionLemmas.{SavesAt, savepoint_is}
 
@@ -162,6 +165,41 @@ origin_by f seen r job node (Some n) e h =
 pub origin_serves : {S : Type 0} (f : Farm S) (seen : Seen) (r : Records) (job : Job) (node : NodeNo) → origin_of f seen r job ≡ Some node → IsServed f seen r job node
 origin_serves f seen r job node h =
     origin_by f seen r job node (jobs.origin f.given f.nodes (λ n. option_map seen.counts (image_of r (node_no n))) job) refl h
+
+-- the images that may serve a job that reaches a node are those of nodes above it
+source_proper : (nodes : List Node) (x n : ℕ) (node : Node) → IsPlan nodes → slice_get nodes n ≡ Some node → list_any (λ a. a == x) (drop 1 (path nodes n)) ≡ true → x < n
+source_proper nodes x n node plan e h = by node.parent refl
+  where
+    down : IfSome node.parent (λ p. p.0 < n)
+    down = descends nodes plan n node e
+
+    by : (parent : Option NodeNo) → node.parent ≡ parent → x < n
+    by None p = absurd (false≢true (sym (ap (λ o. list_any (λ a. a == x) (at_parent [] (grown with_number [] nodes) o)) p)
+        ∙ sym (ap (λ ns. list_any (λ a. a == x) (drop 1 ns)) (path-at nodes n node e down)) ∙ h))
+    by (Some parent) p =
+        let up : is_below nodes x parent.0 ≡ true =
+        sym (ap (λ o. list_any (λ a. a == x) (at_parent [] (grown with_number [] nodes) o)) p)
+        ∙ sym (ap (λ ns. list_any (λ a. a == x) (drop 1 ns)) (path-at nodes n node e down)) ∙ h in
+        let first = stands_before nodes x parent.0 plan up in
+        let less : parent.0 < n = subst (λ o. IfSome o (λ q. q.0 < n)) p down in
+        omega (arith, first, less)
+
+pub origin_proper : {S : Type 0} (f : Farm S) (seen : Seen) (r : Records) (n node : NodeNo) → IsPlan f.nodes → is_job f.nodes (Reach n) ≡ true
+    → origin_of f seen r (Reach n) ≡ Some node → node.0 < n.0
+origin_proper f seen r n node plan is h = by (jobs.origin f.given f.nodes held (Reach n)) refl h
+  where
+    held : ℕ → Option Header
+    held = λ n. option_map seen.counts (image_of r (node_no n))
+
+    by : (found : Option ℕ) → jobs.origin f.given f.nodes (λ n. option_map seen.counts (image_of r (node_no n))) (Reach n) ≡ found → option_map node_no found ≡ Some node → node.0 < n.0
+    by None e g = cc
+    by (Some x) e g =
+        let p = planned f.nodes (Reach n) is in
+        let found = first_fitting_finds (limits f (Reach n)) (λ n. option_map seen.counts (image_of r (node_no n))) (sources f.nodes (Reach n)) x e in
+        let less = source_proper f.nodes x n.0 p.node plan p.stands found.1 in
+        let same : node_no x ≡ node = cc in
+        let number = ap (λ (m : NodeNo). m.0) same in
+        omega (arith, less, number)
 
 map_alike : {A : Type 0} (c d : Held → A) (o : Option Held) → ((h : Held) → o ≡ Some h → c h ≡ d h) → option_map c o ≡ option_map d o
 map_alike c d None alike = refl

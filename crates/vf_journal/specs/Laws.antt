@@ -6,12 +6,13 @@ use Rattle.vf_base.specs.declared.names.Job.TheVariants.{Reach, Finish}
 use Rattle.vf_base.specs.declared.names.NodeNo.{NodeNo}
 use Rattle.vf_base.specs.declared.run.Outcome.{Outcome}
 use Rattle.vf_base.specs.declared.run.SaveKind.{SaveKind}
-use Rattle.vf_machine.specs.Machine.{Machine, Move, go, stop, Sight}
+use Rattle.vf_machine.specs.Machine.{Move, go, stop}
+use Rattle.vf_machine.specs.Run.{sight_at}
 use Rattle.vf_plan.specs.Rules.{IsPlan}
 use Rattle.vf_jobs.specs.Kinds as solo
 use Rattle.vf_jobs.specs.Kinds.{savepoint_of_node}
 use Rattle.vf_journal.specs.declared.entry.Entry.{Entry}
-use Rattle.vf_journal.specs.Farm.{Farm, point_in}
+use Rattle.vf_journal.specs.Farm.{Farm, stimulus, point_in}
 use Rattle.vf_journal.specs.declared.entry.Kind.{Kind}
 use Rattle.vf_journal.specs.declared.entry.Kind.TheVariants as kinds
 use Rattle.vf_journal.specs.declared.entry.Told.TheVariants as told
@@ -24,9 +25,15 @@ abbrev pub goes_on : {S : Type 0} → Move S → Bool
 goes_on (go state text save) = true
 goes_on (stop ending) = false
 
--- a turn that reads the stimulus does not end the run by itself
-abbrev pub ReadsGoOn : {S : Type 0} → Machine S → Type 0
-ReadsGoOn {S} m = (sight : Sight) (s : S) → m.at_read s ≡ true → goes_on (m.move sight s) ≡ true
+-- the turn after k turns of a job's solo run, if it reads the stimulus, does not end the run by itself
+abbrev pub ReadGoesOn : {S : Type 0} → Farm S → Job → ℕ → Type 0
+ReadGoesOn f job k =
+    f.machine.at_read (point_in f job k).moment.state ≡ true
+    → goes_on (f.machine.move (sight_at f.machine (stimulus f job) (point_in f job k).moment) (point_in f job k).moment.state) ≡ true
+
+-- no turn of the solo runs that reads the stimulus ends the run by itself
+abbrev pub ReadsGoOn : {S : Type 0} → Farm S → Type 0
+ReadsGoOn f = (job : Job) (k : ℕ) → ReadGoesOn f job k
 
 -- ---- what a journal tells
 
@@ -97,4 +104,4 @@ pub record IsCore {S : Type 0} (f : Farm S) (js : List Entry) (w : World S) : Ty
 -- The core law: whatever jobs start, whatever images are evicted, and however the turns of jobs interleave.
 abbrev pub CoreLaw : {S : Type 0} → Farm S → Type 0
 CoreLaw {S} f =
-    IsPlan f.nodes → ReadsGoOn f.machine → (es : List Event) (js : List Entry) (w : World S) → Runs f es js w → IsCore f js w
+    IsPlan f.nodes → ReadsGoOn f → (es : List Event) (js : List Entry) (w : World S) → Runs f es js w → IsCore f js w

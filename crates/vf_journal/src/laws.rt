@@ -9,6 +9,7 @@ ghost use Rattle.vf_journal.specs.Laws.{
   IsReplayed,
   TurnsAddUp,
 };
+ghost use Rattle.vf_journal.specs.Holding.{HoldsImages, SomeCanGo};
 
 use vf_jobs::laws::{endings_are_copied, passings_are_copied};
 use vf_machine::laws::ending_is_still;
@@ -51,4 +52,16 @@ pub fn journals_are_replayed<S>()
 /// Each entry adds the turns of the attempt that it closes, and what follows from it adds none.
 pub fn turns_add_up<S>()
     ensures { (f : Farm S) → TurnsAddUp f }
+{}
+
+/// The images that a journal comes to are of different nodes of the plan. Each is its node's save point,
+/// and has its base, a full image of another node above that is held. The full image that a running job
+/// goes back to serves the job, where it is still held.
+pub fn images_are_held<S>()
+    ensures { (f : Farm S) → HoldsImages f }
+{}
+
+/// Where an image is held, some image may be evicted.
+pub fn some_image_can_go<S>()
+    ensures { (f : Farm S) → SomeCanGo f }
 {}
