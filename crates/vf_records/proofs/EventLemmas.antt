@@ -15,7 +15,8 @@ use Rattle.vf_jobs.specs.Setup.{Conditions}
 use Rattle.vf_journal.specs.declared.entry.Kind.{Kind}
 use Rattle.vf_journal.specs.declared.entry.Kind.TheVariants.{Unknown}
 use Rattle.vf_journal.specs.declared.entry.Told.{Told}
-use Rattle.vf_journal.specs.Records.{Held, Stage, idle, running, over, Records, at_first, told_by, state_at, state_of, same_job, is_job, is_ready, is_idle, is_over, is_known}
+use Rattle.vf_journal.specs.Journal.{still_held}
+use Rattle.vf_journal.specs.Records.{Held, Stage, idle, running, deferred, over, Records, at_first, told_by, state_at, state_of, same_job, is_job, is_ready, is_idle, is_over, is_known}
 use Rattle.vf_journal.specs.Effects.{with_stage, with_over}
 use Rattle.vf_records.specs.declared.layout.Place.{Place}
 use Rattle.vf_records.specs.declared.row.Attempt.{Attempt}
@@ -23,7 +24,7 @@ use Rattle.vf_records.specs.declared.row.HeldImage.{HeldImage}
 use Rattle.vf_records.specs.declared.row.Progress.{Progress}
 use Rattle.vf_records.specs.declared.row.Progress.TheVariants as rows
 use Rattle.vf_records.specs.declared.tables.Tables.{Tables}
-use Rattle.vf_records.specs.Account.{farm_of}
+use Rattle.vf_records.specs.Account.{farm_of, attempt_at, full_held}
 use Rattle.vf_records.specs.Layout.{place_in, IsLaidOut}
 use Rattle.vf_records.specs.Tables.{attempt_of, held_of, stage_of, stands_at, stage_at, stage_in, kinds_with, records_of, to_come, is_over_progress, is_idle_progress, AreOver, AreTables}
 use Rattle.vf_records.proofs.TableLemmas.{job_at, listed_all, stage_self, same_records, stage_after, stage_run, idle_open}
@@ -213,3 +214,24 @@ state_is s counts t kept job h k same p e =
     ap (λ (stage : Stage). state_at stage (is_ready (farm_of s) (records_of t) job))
     (stage_self s.plan t.layout.jobs.items t.layout.places.items kept.layout t.progress.items t.told.items job k at
     ∙ ap (λ (q : Progress). stage_of q (get_or t.told.items k None)) (sym (get_or_read t.progress.items k p within e rows.Idle)))
+
+-- ---- the attempt of a job
+
+pub attempt_is : (s : Conditions) (counts : Held → Header) (t : Tables) (kept : AreTables s.plan counts t) (job : Job) → is_job s.plan job ≡ true
+    → (k : ℕ) → k ≡ place_in t.layout.places.items job → (p : Progress) → p ≡ get_or t.progress.items k p
+    → attempt_at ((records_of t).stages job) ≡ attempt_at (stage_of p (get_or t.told.items k None))
+attempt_is s counts t kept job h k same p e =
+    let placed = placed_job s counts t kept job h in
+    let at : slice_get t.layout.jobs.items k ≡ Some job = ap (slice_get t.layout.jobs.items) same ∙ placed.at in
+    let less = placed.progress in
+    let within : k < length t.progress.items = omega (arith, less, same) in
+    ap attempt_at
+    (stage_self s.plan t.layout.jobs.items t.layout.places.items kept.layout t.progress.items t.told.items job k at
+    ∙ ap (λ (q : Progress). stage_of q (get_or t.told.items k None)) (sym (get_or_read t.progress.items k p within e rows.Idle)))
+
+-- the full image that the attempt of a job goes back to, where it is held
+pub still_of : (r : Records) (stage : Stage) → full_held r (attempt_at stage) ≡ still_held r stage
+still_of r idle = refl
+still_of r (running attempt) = refl
+still_of r deferred = refl
+still_of r (over tells) = refl

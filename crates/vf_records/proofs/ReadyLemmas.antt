@@ -1,7 +1,7 @@
 -- Ready jobs, and the nearest image that fits.
-use Rattle.std.proofs.Common.{◌≡◌, ℕ, zero, suc, ◌+◌, ◌<◌, ◌≤◌, Bool, true, false, ◌&&◌, ◌||◌, ◌==◌, not, if◌then◌else◌, List, [], ◌∷◌, ◌++◌, length, take, drop, map, Option, Some, None, IfSome, option_map, refl, sym, ◌∙◌, ap, ap₂, subst, arith, slice_get, get_or, unwrap_or}
+use Rattle.std.proofs.Common.{◌≡◌, ℕ, zero, suc, ◌+◌, ◌<◌, ◌≤◌, Bool, true, false, ◌&&◌, ◌||◌, ◌==◌, not, if◌then◌else◌, List, [], ◌∷◌, ◌++◌, length, take, drop, map, Option, Some, None, IfSome, option_map, refl, sym, ◌∙◌, ap, ap₂, subst, arith, slice_get, get_or, unwrap_or, ⊎_elim}
 use Rattle.std.specs.List.{list_any, find, All}
-use Rattle.std.proofs.lemmas.Bool.{false≢true, and_parts}
+use Rattle.std.proofs.lemmas.Bool.{false≢true, and_parts, or_parts, or_cases, or_from, or_left, or_right}
 use Rattle.std.proofs.lemmas.Option.{slice_get_within, slice_get-map}
 use Rattle.vf_base.specs.declared.names.Job.{Job}
 use Rattle.vf_base.specs.declared.names.Job.TheVariants.{Reach, Finish}
@@ -15,17 +15,21 @@ use Rattle.vf_jobs.specs.Jobs as jobs
 use Rattle.vf_jobs.specs.Jobs.{node_of, node_no, first_fitting, holds_fitting, sources}
 use Rattle.vf_jobs.specs.Setup.{Conditions}
 use Rattle.vf_journal.specs.declared.entry.Kind.TheVariants.{Unknown}
-use Rattle.vf_journal.specs.Records.{Held, Stage, idle, running, deferred, over, Records, is_job, is_known, is_ready, is_idle, is_over, image_of, some_job}
+use Rattle.vf_design.specs.Words.{machine_of}
+use Rattle.vf_jobs.proofs.CallerLemmas.{endings_copied, passings_copied}
+use Rattle.vf_journal.specs.Holding.{NoneRuns}
+use Rattle.vf_journal.proofs.CallerLemmas.{ends_whole, is_done}
+use Rattle.vf_journal.specs.Records.{Held, Stage, idle, running, deferred, over, Records, same_job, is_job, is_known, is_ready, is_idle, is_over, image_of, some_job}
 use Rattle.vf_records.specs.declared.row.HeldImage.{HeldImage}
 use Rattle.vf_records.specs.declared.row.Progress.{Progress}
 use Rattle.vf_records.specs.declared.row.Progress.TheVariants as rows
 use Rattle.vf_records.specs.declared.tables.Tables.{Tables}
-use Rattle.vf_journal.specs.Journal.{IsGivenUp, first_ready}
+use Rattle.vf_journal.specs.Journal.{IsGivenUp, first_ready, ordered}
 use Rattle.vf_journal.specs.Farm.{Farm}
 use Rattle.vf_records.specs.declared.next.Next.TheVariants as nexts
-use Rattle.vf_records.specs.Account.{Account, farm_of, records_in, is_left, next_of, next_job_of}
+use Rattle.vf_records.specs.Account.{Account, farm_of, records_in, IsAccount, is_left, next_of, next_job_of}
 use Rattle.vf_records.specs.Tables.{records_of, held_of, is_over_progress, is_idle_progress, AreTables}
-use Rattle.vf_records.proofs.TableLemmas.{listed_all, is_job_at, stage_self, is_idle_of, is_over_of, holds_at}
+use Rattle.vf_records.proofs.TableLemmas.{same_self, same_is, listed_all, is_job_at, stage_self, is_idle_of, is_over_of, holds_at}
 
 -- ---- the first that passes a test
 
@@ -182,6 +186,55 @@ next_ready a job e = next_some (first_ready (farm_of a.setup) (records_in a)) (i
 -- so it is ready
 pub ready_next : (a : Account) (job : Job) → next_job_of a ≡ nexts.Job job → is_ready (farm_of a.setup) (records_in a) job ≡ true
 ready_next a job e = found_passes (is_ready (farm_of a.setup) (records_in a)) (jobs.jobs a.setup.plan) job (next_ready a job e)
+
+-- and a job of the plan
+pub next_planned : (a : Account) (job : Job) → next_job_of a ≡ nexts.Job job → is_job a.setup.plan job ≡ true
+next_planned a job e =
+    let r = records_in a in
+    (and_parts (is_job a.setup.plan job) (is_idle (r.stages job) && jobs.is_ready a.setup.plan (λ n. is_known (r.kinds n)) job) (ready_next a job e)).0
+
+-- where none comes next and none can come later, each job is over
+none_left : (o : Option Job) (left : Bool) → next_of o left ≡ nexts.Done → left ≡ false
+none_left (Some job) left e = cc
+none_left None true e = cc
+none_left None false e = refl
+
+over_by : (b : Bool) → not b ≡ false → b ≡ true
+over_by true h = refl
+over_by false h = absurd (false≢true (sym h))
+
+pub done_over : (a : Account) (job : Job) → next_job_of a ≡ nexts.Done → is_job a.setup.plan job ≡ true → is_over ((records_in a).stages job) ≡ true
+done_over a job e is =
+    over_by (is_over ((records_in a).stages job))
+    (none_of (λ j. not (is_over ((records_in a).stages j))) (jobs.jobs a.setup.plan) (none_left (first_ready (farm_of a.setup) (records_in a)) (is_left a.setup (records_in a)) e) job is)
+  where
+    none_of : (test : Job → Bool) (xs : List Job) → list_any test xs ≡ false → (j : Job) → list_any (same_job j) xs ≡ true → test j ≡ false
+    none_of test [] none j is = absurd (false≢true is)
+    none_of test (x ∷ xs) none j is =
+        let two = or_parts (test x) (list_any test xs) none in
+        ⊎_elim (λ here. ap test (same_is j x here) ∙ two.0) (λ there. none_of test xs two.1 j there) (or_cases (same_job j x) (list_any (same_job j) xs) is)
+
+-- where one comes later, none is ready and some job is left
+later_none : (o : Option Job) (left : Bool) → next_of o left ≡ nexts.Later → (o ≡ None) × (left ≡ true)
+later_none (Some job) left e = cc
+later_none None true e = (refl, refl)
+later_none None false e = cc
+
+some_over : (test : Job → Bool) (xs : List Job) → ((j : Job) → list_any (same_job j) xs ≡ true → test j ≡ false) → list_any test xs ≡ false
+some_over test [] none = refl
+some_over test (x ∷ xs) none =
+    or_from (test x) (list_any test xs) (none x (or_left (same_job x x) (list_any (same_job x) xs) (same_self x)))
+    (some_over test xs (λ j h. none j (or_right (same_job j x) (list_any (same_job j) xs) h)))
+
+-- where no job runs, one comes next or all are over
+pub never_later : (a : Account) → IsAccount a → NoneRuns (records_in a) → next_job_of a ≡ nexts.Later → ⊥
+never_later a kept none e =
+    let f = farm_of a.setup in
+    let r = records_in a in
+    let m = machine_of a.setup.design in
+    let parts = later_none (first_ready f r) (is_left a.setup r) e in
+    let whole = ends_whole f (endings_copied m) (passings_copied m) kept.setup.plan ordered a.journal r kept.journal (is_done f r parts.0 none kept.undeferred) in
+    false≢true (sym (some_over (λ j. not (is_over (r.stages j))) (jobs.jobs a.setup.plan) (λ j is. ap not (whole.over j is))) ∙ parts.1)
 
 pub ready_in : (s : Conditions) (r : Records) (job : Job) → next_of (first_ready (farm_of s) r) (is_left s r) ≡ nexts.Job job → is_ready (farm_of s) r job ≡ true
 ready_in s r job e = found_passes (is_ready (farm_of s) r) (jobs.jobs s.plan) job (next_some (first_ready (farm_of s) r) (is_left s r) job e)

@@ -1,5 +1,5 @@
 -- What an entry makes of the records of a farm.
-use Rattle.std.proofs.Common.{◌≡◌, ℕ, ◌<◌, Bool, true, false, List, [], ◌∷◌, ◌++◌, length, option_map, Option, Some, None, IfSome, refl, sym, ◌∙◌, ap, ap₂, subst, arith, ⊎_elim}
+use Rattle.std.proofs.Common.{◌≡◌, ℕ, ◌<◌, Bool, true, false, List, [], ◌∷◌, ◌++◌, length, option_map, Option, Some, None, IfSome, refl, sym, ◌∙◌, ap, ap₂, subst, arith, ⊎_elim, if◌then◌else◌, slice_get, get_or}
 use Rattle.std.proofs.lemmas.Bool.{false≢true, or_cases}
 use Rattle.std.specs.Arc.{arc_value}
 use Rattle.vf_base.specs.declared.names.Job.{Job}
@@ -7,25 +7,33 @@ use Rattle.vf_base.specs.declared.names.Job.TheVariants.{Reach, Finish}
 use Rattle.vf_base.specs.declared.run.Header.{Header}
 use Rattle.vf_base.specs.declared.run.Limits.{Limits}
 use Rattle.vf_jobs.specs.Jobs.{node_of}
-use Rattle.vf_jobs.specs.Setup.{Conditions}
+use Rattle.vf_base.specs.declared.names.NodeNo.{NodeNo}
+use Rattle.vf_design.specs.Words.{machine_of}
+use Rattle.vf_jobs.specs.Setup.{Conditions, IsSetup}
+use Rattle.vf_jobs.proofs.CallerLemmas.{endings_copied, passings_copied}
+use Rattle.vf_journal.specs.declared.entry.Told.{Told}
 use Rattle.vf_journal.specs.declared.entry.Entry.{Entry}
 use Rattle.vf_journal.specs.declared.entry.Entry.TheVariants.{End, Pages, Lost}
 use Rattle.vf_journal.specs.declared.entry.Kind.{Kind}
 use Rattle.vf_journal.specs.declared.entry.Kind.TheVariants as kinds
 use Rattle.vf_journal.specs.Farm.{limits}
-use Rattle.vf_journal.specs.Records.{Records, Attempt, Stage, idle, running, deferred, over, is_job, is_ready, is_running, is_over}
+use Rattle.vf_journal.specs.Records.{Held, Records, Attempt, Stage, idle, running, deferred, over, is_job, is_ready, is_running, is_deferred, is_over}
+use Rattle.vf_journal.proofs.CallerLemmas.{holds_images, some_can_go, tells_solo}
 use Rattle.vf_journal.specs.Effects as effects
 use Rattle.vf_journal.specs.Effects.{after, consequences, spread_of}
-use Rattle.vf_journal.specs.Journal.{IsJournal, ordered}
+use Rattle.vf_journal.specs.Journal.{IsJournal, ordered, next_evicted}
 use Rattle.vf_records.specs.declared.records.Records.TheInside.{Inside}
+use Rattle.vf_records.specs.declared.row.Progress.{Progress}
+use Rattle.vf_records.specs.declared.row.Progress.TheVariants as rows
 use Rattle.vf_records.specs.declared.spread.Reached.{Reached}
 use Rattle.vf_records.specs.declared.spread.Reached.TheVariants.{Ending, Passing}
 use Rattle.vf_records.specs.declared.spread.Spread.{Spread}
 use Rattle.vf_records.specs.declared.tables.Tables.{Tables}
-use Rattle.vf_records.specs.Account.{Account, farm_of, solo_of, records_in, records_after, with_entry, IsLawful}
+use Rattle.vf_records.specs.Account.{Account, farm_of, solo_of, records_in, records_after, with_entry, IsAccount, IsLawful}
 use Rattle.vf_records.specs.Inner.{account_of, IsKept}
 use Rattle.vf_records.specs.Spreads.{spread_seen, spread_from}
-use Rattle.vf_records.specs.Tables.{records_of, AreTables}
+use Rattle.vf_records.specs.Layout.{place_in}
+use Rattle.vf_records.specs.Tables.{stage_of, stands_at, records_of, AreTables}
 use Rattle.vf_records.proofs.TableLemmas.{running_job}
 use Rattle.vf_records.proofs.EventLemmas.{placed_job, ready_job, ready_open}
 use Rattle.vf_records.proofs.JournalLemmas.{come_to, journal_next}
@@ -38,6 +46,48 @@ records_is inside a view kept = sym (come_to (account_of inside) (records_of ins
 
 pub tables_at : (inside : Inside) → IsKept inside → (d : Conditions) → d ≡ arc_value inside.setup → AreTables d.plan (solo_of d).counts inside.tables
 tables_at inside kept d is = subst (λ (s : Conditions). AreTables s.plan (solo_of s).counts inside.tables) (sym is) kept.tables
+
+-- ---- what an account keeps
+
+undeferred_stage : (p : Progress) (t : Option Told) → is_deferred (stage_of p t) ≡ false
+undeferred_stage rows.Idle t = refl
+undeferred_stage (rows.Running attempt) t = refl
+undeferred_stage rows.Over t = refl
+
+undeferred_by : (b : Bool) (s : Stage) → is_deferred s ≡ false → is_deferred (if b then s else idle) ≡ false
+undeferred_by true s h = h
+undeferred_by false s h = refl
+
+undeferred : (t : Tables) (job : Job) → is_deferred ((records_of t).stages job) ≡ false
+undeferred t job =
+    let p = place_in t.layout.places.items job in
+    undeferred_by (stands_at (slice_get t.layout.jobs.items p) job) (stage_of (get_or t.progress.items p rows.Idle) (get_or t.told.items p None))
+    (undeferred_stage (get_or t.progress.items p rows.Idle) (get_or t.told.items p None))
+
+pub account_kept : (inside : Inside) (a : Account) → account_of inside ≡ a → IsKept inside → IsSetup a.setup → IsAccount a
+account_kept inside a view kept setup =
+    let f = farm_of a.setup in
+    let m = machine_of a.setup.design in
+    let come = records_is inside a view kept in
+    let law : IsJournal f ordered a.journal (records_in a) =
+    subst (IsJournal f ordered a.journal) come (subst (λ (b : Account). IsJournal (farm_of b.setup) ordered b.journal (records_of inside.tables)) view kept.lawful) in
+    record {
+      setup = setup;
+      journal = law;
+      images = holds_images f setup.plan ordered a.journal (records_in a) law;
+      told = tells_solo f (endings_copied m) (passings_copied m) setup.plan ordered a.journal (records_in a) law;
+      undeferred = λ job. ap (λ (r : Records). is_deferred (r.stages job)) (sym come) ∙ undeferred inside.tables job;
+    }
+
+none_next : (o : Option Held) → option_map (λ (h : Held). h.node) o ≡ None → o ≡ None
+none_next None e = refl
+none_next (Some h) e = cc
+
+-- where no image is chosen none is held
+pub none_held : (a : Account) (chosen : Option NodeNo) → IsAccount a → chosen ≡ option_map (λ (h : Held). h.node) (next_evicted (farm_of a.setup) (records_in a)) → chosen ≡ None
+    → (records_in a).held ≡ []
+none_held a chosen kept is none =
+    some_can_go (farm_of a.setup) kept.setup.plan ordered a.journal (records_in a) kept.journal (none_next (next_evicted (farm_of a.setup) (records_in a)) (sym is ∙ none))
 
 -- the records with an entry more
 pub record IsMade (inside : Inside) (a : Account) (e : Entry) (new : Tables) : Type 0 where

@@ -1,14 +1,16 @@
 -- What contracts see of `Records`, and how an entry changes it (docs/FARM.md, "The journal").
-use Rattle.std.specs.Prelude.{◌≡◌, Bool, true, false, not, List, ◌∷◌, ◌++◌, Option, Some, None}
+use Rattle.std.specs.Prelude.{◌≡◌, Bool, true, false, not, List, ◌∷◌, ◌++◌, Option, Some, None, option_and_then}
 use Rattle.vf_base.specs.declared.names.Job.{Job}
 use Rattle.vf_design.specs.State.{State}
 use Rattle.vf_design.specs.Words.{machine_of}
-use Rattle.vf_jobs.specs.Setup.{Conditions}
+use Rattle.vf_jobs.specs.Setup.{Conditions, IsSetup}
 use Rattle.vf_journal.specs.declared.entry.Entry.{Entry}
 use Rattle.vf_journal.specs.Farm.{Farm}
-use Rattle.vf_journal.specs.Records.{Records, at_first, is_over, some_job}
+use Rattle.vf_journal.specs.Records.{Held, Attempt, Stage, idle, running, deferred, over, Records, at_first, is_deferred, is_over, some_job, image_of}
 use Rattle.vf_journal.specs.Effects.{Seen, Guard, after, consequences}
-use Rattle.vf_journal.specs.Journal.{of_solo, ordered, replay, IsChosen, IsOfSolo, first_ready}
+use Rattle.vf_journal.specs.Journal.{of_solo, ordered, replay, IsChosen, IsJournal, IsOfSolo, first_ready}
+use Rattle.vf_journal.specs.Holding.{AreHeld}
+use Rattle.vf_journal.specs.Laws.{IsTold}
 use Rattle.vf_records.specs.declared.next.Next.{Next}
 use Rattle.vf_records.specs.declared.next.Next.TheVariants as nexts
 
@@ -41,6 +43,29 @@ pub record IsLawful (a : Account) (e : Entry) : Type 0 where
   pub guard : Guard (farm_of a.setup) (solo_of a.setup) (records_in a) e
   pub chosen : IsChosen (farm_of a.setup) ordered (records_in a) e
   pub solo : IsOfSolo (farm_of a.setup) (records_in a) e
+
+-- What is kept by an account: its setup is one, its journal is lawful, the images are held as the farm holds them, and what is told is that
+-- of the solo runs. One worker never gives an attempt up, so no job waits for a rest.
+pub record IsAccount (a : Account) : Type 0 where
+  pub setup : IsSetup a.setup
+  pub journal : IsJournal (farm_of a.setup) ordered a.journal (records_in a)
+  pub images : AreHeld (farm_of a.setup) (records_in a)
+  pub told : IsTold (farm_of a.setup) (records_in a)
+  pub undeferred : (job : Job) → is_deferred ((records_in a).stages job) ≡ false
+
+-- ---- attempts
+
+-- the attempt of a job that runs
+abbrev pub attempt_at : Stage → Option Attempt
+attempt_at idle = None
+attempt_at (running attempt) = Some attempt
+attempt_at deferred = None
+attempt_at (over tells) = None
+
+-- the full image that it goes back to, where that is held
+abbrev pub full_held : Records → Option Attempt → Option Held
+full_held r None = None
+full_held r (Some attempt) = option_and_then (image_of r) attempt.full
 
 -- ---- which job comes next
 

@@ -15,9 +15,9 @@ ghost use Rattle.vf_records.specs.Tables.{entries_ahead, kinds_with, held_of, re
 
 use crate::row::{HeldImage, Progress};
 use crate::spread::Spread;
-use crate::tables::{Tables, node_of};
+use crate::tables::Tables;
 use vf_base::{Job, NodeNo};
-use vf_jobs::{Setup, is_below, limits_of};
+use vf_jobs::{Setup, is_below, limits_of, node_of};
 use vf_journal::{Entry, Kind, Told};
 use vf_plan::Plan;
 

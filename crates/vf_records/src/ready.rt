@@ -11,7 +11,8 @@ ghost use Rattle.vf_plan.specs.Paths.{at_parent, grown, with_number};
 ghost use Rattle.vf_journal.specs.Records as seen;
 ghost use Rattle.vf_journal.specs.Records.{is_job, is_known, state_of, is_ready, is_over, image_of, some_job};
 ghost use Rattle.vf_journal.specs.Effects.{origin_of, started_from};
-ghost use Rattle.vf_journal.specs.Journal.{first_ready};
+ghost use Rattle.vf_journal.specs.Journal.{first_ready, base_for};
+ghost use Rattle.vf_records.specs.Account.{attempt_at, full_held};
 ghost use Rattle.vf_records.specs.Account.{farm_of, solo_of, next_of, is_left};
 ghost use Rattle.vf_records.specs.Layout.{no_place};
 ghost use Rattle.vf_records.specs.Tables.{AreCounted, attempt_of, held_of, records_of, AreTables, is_over_progress, is_idle_progress};
@@ -19,8 +20,8 @@ ghost use Rattle.vf_records.specs.Tables.{AreCounted, attempt_of, held_of, recor
 use crate::next::Next;
 use crate::row::{Attempt, HeldImage, Progress};
 use crate::spread::fits;
-use crate::tables::{Tables, node_of};
-use vf_base::{Job, Limits, NodeNo};
+use crate::tables::Tables;
+use vf_base::{Job, Limits, NodeNo, SaveKind};
 use vf_jobs::{Setup, limits_of};
 use vf_journal::{JobState, Kind};
 use vf_plan::Plan;
@@ -101,6 +102,20 @@ impl Tables {
                     JobState::Waiting
                 }
             }
+        }
+    }
+
+    /// The attempt of a job that runs.
+    pub(crate) fn attempt(&self, setup: &Setup, job: Job) -> Option<Attempt>
+        requires tables { AreTables setup.now.plan (solo_of setup.now).counts self.now }
+        requires job { is_job setup.now.plan job ≡ true }
+        ensures { option_map attempt_of result ≡ attempt_at ((records_of self.now).stages job) }
+    {
+        let at = self.place(job);
+        match self.progress[at] {
+            Progress::Running(attempt) => Some(attempt),
+            Progress::Idle => None,
+            Progress::Over => None,
         }
     }
 
@@ -221,6 +236,34 @@ impl Tables {
             origin: None,
             full: None,
             since: 0,
+        }
+    }
+
+    /// The node of the full image that an attempt's origin is or is based on, where it is held.
+    fn still_held(&self, attempt: Option<Attempt>) -> Option<NodeNo>
+        ensures { result ≡ option_map (λ h. h.node) (full_held (records_of self.now) (option_map attempt_of attempt)) }
+    {
+        let Some(attempt) = attempt else {
+            return None;
+        };
+        let Some(node) = attempt.full else {
+            return None;
+        };
+        match self.image(node) {
+            Some(image) => Some(image.node),
+            None => None,
+        }
+    }
+
+    /// The base of an image of the node that is saved now.
+    pub(crate) fn base_for(&self, setup: &Setup, node: NodeNo, kind: SaveKind) -> Option<NodeNo>
+        requires tables { AreTables setup.now.plan (solo_of setup.now).counts self.now }
+        requires job { is_job setup.now.plan (Job.Reach node) ≡ true }
+        ensures { result ≡ option_map (λ h. h.node) (base_for (records_of self.now) node kind) }
+    {
+        match kind {
+            SaveKind::Full => None,
+            SaveKind::Incr => self.still_held(self.attempt(setup, Job::Reach(node))),
         }
     }
 }

@@ -1,21 +1,22 @@
-ghost use Rattle.std.specs.Prelude.{◌≡◌, ℕ, ◌+◌, ◌<◌, List, [], true, Option, Some, None, length, map, option_map, get_or, slice_get, IfOk};
+ghost use Rattle.std.specs.Prelude.{◌≡◌, ℕ, ◌+◌, ◌<◌, List, [], true, Option, Some, None, length, map, option_map, get_or, slice_get, IfOk, IfSome};
 ghost use Rattle.std.specs.Arc.{arc_value};
 ghost use Rattle.vf_jobs.specs.Jobs as jobs;
 ghost use Rattle.vf_jobs.specs.Jobs.{node_of};
-ghost use Rattle.vf_journal.specs.Records.{is_job, state_of, told_by};
+ghost use Rattle.vf_jobs.specs.Setup.{IsSetup};
+ghost use Rattle.vf_journal.specs.Records.{is_job, state_of, told_by, image_of};
 ghost use Rattle.vf_journal.specs.Effects.{origin_of};
-ghost use Rattle.vf_journal.specs.Journal.{first_ready, next_evicted};
-ghost use Rattle.vf_records.specs.Tables.{held_of};
-ghost use Rattle.vf_records.specs.Account.{farm_of, solo_of, records_in, records_after, with_entry, IsLawful, next_job_of};
+ghost use Rattle.vf_journal.specs.Journal.{first_ready, next_evicted, base_for};
+ghost use Rattle.vf_records.specs.Tables.{held_of, attempt_of};
+ghost use Rattle.vf_records.specs.Account.{farm_of, solo_of, records_in, records_after, with_entry, IsAccount, IsLawful, attempt_at, next_job_of};
 
 use crate::next::Next;
-use crate::row::HeldImage;
+use crate::row::{Attempt, HeldImage};
 use crate::spread::{Reached, Spread, spread_of};
 use crate::tables::Tables;
 use std::alloc::Global;
 use std::marker::Model;
 use std::sync::Arc;
-use vf_base::{Header, Job, Memory, NodeNo, Outcome};
+use vf_base::{Header, Job, Memory, NodeNo, Outcome, SaveKind};
 use vf_jobs::{Setup, limits_of};
 use vf_journal::{Entry, JobState, Kind, Told};
 
@@ -41,6 +42,13 @@ impl Model for Records {
     ghost invariant = { IsKept };
 }
 
+/// The budget of a setup, which keeps its rules.
+fn budget(setup: &Setup) -> u32
+    ensures { IsSetup setup.now }
+{
+    setup.budget
+}
+
 impl Records {
     /// The records of a farm in which nothing has been done. It takes all the memory that later calls
     /// need.
@@ -59,10 +67,12 @@ impl Records {
         &self.setup
     }
 
-    /// The entries so far.
+    /// The entries so far. They are a lawful journal, and all that follows from that stands with them.
     pub fn journal(&self) -> &[Entry]
-        ensures { result.now ≡ self.now.journal }
+        ensures journal { result.now ≡ self.now.journal }
+        ensures kept { IsAccount self.now }
     {
+        let _budget = budget(&self.setup);
         &self.tables.journal
     }
 
@@ -102,6 +112,32 @@ impl Records {
         ensures { map held_of result.now ≡ (records_in self.now).held }
     {
         &self.tables.held
+    }
+
+    /// The image of a node, where it is held.
+    pub fn image(&self, node: NodeNo) -> Option<HeldImage>
+        ensures image { option_map held_of result ≡ image_of (records_in self.now) node }
+        ensures counts { IfSome result (λ h. h.counts ≡ (solo_of self.now.setup).counts (held_of h)) }
+    {
+        self.tables.image(node)
+    }
+
+    /// The attempt of a job of the plan, where it runs.
+    pub fn attempt(&self, job: Job) -> Option<Attempt>
+        requires { is_job self.now.setup.plan job ≡ true }
+        ensures { option_map attempt_of result ≡ attempt_at ((records_in self.now).stages job) }
+    {
+        self.tables.attempt(&self.setup, job)
+    }
+
+    /// The node whose image is the base of an image that is saved now: where the design asked for an
+    /// incremental checkpoint, the full image that the origin of the job is or is based on, if it is still
+    /// held.
+    pub fn base_for(&self, node: NodeNo, kind: SaveKind) -> Option<NodeNo>
+        requires { is_job self.now.setup.plan (Job.Reach node) ≡ true }
+        ensures { result ≡ option_map (λ h. h.node) (base_for (records_in self.now) node kind) }
+    {
+        self.tables.base_for(&self.setup, node, kind)
     }
 
     /// The job that comes next: the first one that is ready.
@@ -203,10 +239,12 @@ impl Records {
     }
 
     /// The node of the image that is to be evicted: the one that the setup's order chooses among the held
-    /// images on which no incremental one stands.
+    /// images on which no incremental one stands. There is one wherever an image is held.
     pub fn choose_evicted(&self) -> Option<NodeNo>
-        ensures { result ≡ option_map (λ h. h.node) (next_evicted (farm_of self.now.setup) (records_in self.now)) }
+        ensures chosen { result ≡ option_map (λ h. h.node) (next_evicted (farm_of self.now.setup) (records_in self.now)) }
+        ensures none { result ≡ None → (records_in self.now).held ≡ [] }
     {
+        let _budget = budget(&self.setup);
         self.tables.chosen(&self.setup)
     }
 

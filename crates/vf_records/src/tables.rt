@@ -9,7 +9,7 @@ ghost use Rattle.vf_jobs.specs.Subtree.{is_below};
 use crate::layout::{Layout, filled};
 use crate::row::{HeldImage, Progress};
 use std::alloc::Global;
-use vf_base::{Job, Memory, NodeNo};
+use vf_base::{Job, Memory};
 use vf_jobs::Setup;
 use vf_journal::{Entry, Kind, Told};
 
@@ -36,15 +36,6 @@ fn untold(alloc: Global, count: usize) -> Result<Vec<Option<Told>>, Memory>
         told.push(None)?;
     }
     Ok(told)
-}
-
-pub(crate) fn node_of(job: Job) -> NodeNo
-    ensures { result.0 ≡ node_of job }
-{
-    match job {
-        Job::Reach(node) => node,
-        Job::Finish(node) => node,
-    }
 }
 
 impl Tables {
