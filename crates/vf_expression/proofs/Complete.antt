@@ -110,7 +110,7 @@ module _ (P : Rule) (inner : ℕ → Tokens → Read TreeExpr) (d : ℕ)
         inr (q, us, refl),
       )
 
-  exprs_again : (k : ℕ) (ts rest : Tokens) (es : List TreeExpr) → IsExprs P k ts rest es → k ≤ d → Ends 1 rest → after (codes ",") rest ≡ None → exprs_at inner ts ≡ Some (es, k, rest)
+  pub exprs_again : (k : ℕ) (ts rest : Tokens) (es : List TreeExpr) → IsExprs P k ts rest es → k ≤ d → Ends 1 rest → after (codes ",") rest ≡ None → exprs_at inner ts ≡ Some (es, k, rest)
   unfolding exprs_at
   exprs_again k ts rest es is small ends no_more =
       let l = list_again k ts rest es is small ends no_more in
@@ -159,7 +159,7 @@ module _ (P : Rule) (inner : ℕ → Tokens → Read TreeExpr) (d : ℕ)
   unfolding selects_at
   no_first rest ends = rw ends refl
 
-  selects_again : (n : ℕ) (ts rest : Tokens) (trees : List Select) → IsSelects P n ts rest trees → n ≤ d → opening_at rest ≡ None → selects_at inner ts ≡ Some (trees, n, rest)
+  pub selects_again : (n : ℕ) (ts rest : Tokens) (trees : List Select) → IsSelects P n ts rest trees → n ≤ d → opening_at rest ≡ None → selects_at inner ts ≡ Some (trees, n, rest)
   selects_again n ts rest trees (none deep spelled t) small ends = rw (deep, spelled, t) (no_first rest ends)
   selects_again n ts rest trees (single a is t) small ends =
       let x = select_again n ts rest a is small in
@@ -169,11 +169,11 @@ module _ (P : Rule) (inner : ℕ → Tokens → Read TreeExpr) (d : ℕ)
       let y = select_again k us rest b also (omega arith) in
       rw (t, deep) (first_again m ts us a (a ∷ b ∷ [], max m k, rest) x.0 x.1 x.2 x.3 (second_again m k us rest a b y.0 y.1 y.2 y.3))
 
-  closed_again : (m : ℕ) (us : Tokens) (q : Place) (rest : Tokens) (e : TreeExpr) → P 1 m us (sign q (codes ")") ∷ rest) e → m ≤ d → closed_at inner us ≡ Some (e, m, rest)
+  pub closed_again : (m : ℕ) (us : Tokens) (q : Place) (rest : Tokens) (e : TreeExpr) → P 1 m us (sign q (codes ")") ∷ rest) e → m ≤ d → closed_at inner us ≡ Some (e, m, rest)
   unfolding closed_at
   closed_again m us q rest e is small = rw (complete 1 m us (sign q (codes ")") ∷ rest) e is small (ends_close q rest), after_again (codes ")") q rest) refl
 
-  argument_again : (m : ℕ) (us : Tokens) (p q : Place) (rest : Tokens) (e : TreeExpr) → P 1 m us (sign q (codes ")") ∷ rest) e → m ≤ d → argument_at inner (sign p (codes "(") ∷ us) ≡ Some (e, m, rest)
+  pub argument_again : (m : ℕ) (us : Tokens) (p q : Place) (rest : Tokens) (e : TreeExpr) → P 1 m us (sign q (codes ")") ∷ rest) e → m ≤ d → argument_at inner (sign p (codes "(") ∷ us) ≡ Some (e, m, rest)
   unfolding argument_at
   argument_again m us p q rest e is small = rw (after_again (codes "(") p us) (closed_again m us q rest e is small)
 

@@ -4,3 +4,5 @@ mod Sound
 mod Shorter
 mod Complete
 mod Wholes
+mod Parts
+pub mod CallerLemmas

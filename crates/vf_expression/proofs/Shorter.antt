@@ -6,7 +6,7 @@ use Rattle.vf_expression.specs.Operators.{level_of}
 use Rattle.vf_expression.specs.Grammar.{Tokens, sign, Rule, IsExprs, last, more, IsSelect, bit, part, up, down, IsSelects, none, single, double, IsOperand, constant, named, paren, concat, repeat, time, feof, signed, unsigned, prefix, IsExprOver, operand, binary, choice, IsExpr}
 
 module _ (P : Rule) (shorter : (k n : ℕ) (ts rest : Tokens) (tree : TreeExpr) → P k n ts rest tree → length rest < length ts) where
-  exprs_shorter : (n : ℕ) (ts rest : Tokens) (es : List TreeExpr) → IsExprs P n ts rest es → length rest < length ts
+  pub exprs_shorter : (n : ℕ) (ts rest : Tokens) (es : List TreeExpr) → IsExprs P n ts rest es → length rest < length ts
   exprs_shorter n ts rest _ (last e is) = shorter 1 n ts rest e is
   exprs_shorter n ts rest _ (more a b q us e es is others deep) = omega (arith, shorter 1 a ts (sign q (codes ",") ∷ us) e is, exprs_shorter b us rest es others)
 
@@ -16,7 +16,7 @@ module _ (P : Rule) (shorter : (k n : ℕ) (ts rest : Tokens) (tree : TreeExpr) 
   select_shorter n ts rest tree (up m k p q r us vs a b x y spelled deep t) = omega (arith, ap length spelled, shorter 1 m us (sign q (codes "+:") ∷ vs) a x, shorter 1 k vs (sign r (codes "]") ∷ rest) b y)
   select_shorter n ts rest tree (down m k p q r us vs a b x y spelled deep t) = omega (arith, ap length spelled, shorter 1 m us (sign q (codes "-:") ∷ vs) a x, shorter 1 k vs (sign r (codes "]") ∷ rest) b y)
 
-  selects_shorter : (n : ℕ) (ts rest : Tokens) (trees : List Select) → IsSelects P n ts rest trees → length rest ≤ length ts
+  pub selects_shorter : (n : ℕ) (ts rest : Tokens) (trees : List Select) → IsSelects P n ts rest trees → length rest ≤ length ts
   selects_shorter n ts rest trees (none deep spelled t) = omega (arith, ap length spelled)
   selects_shorter n ts rest trees (single a is t) = omega (arith, select_shorter n ts rest a is)
   selects_shorter n ts rest trees (double m k us a b is also deep t) = omega (arith, select_shorter m ts us a is, select_shorter k us rest b also)

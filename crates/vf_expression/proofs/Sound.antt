@@ -17,13 +17,8 @@ use Rattle.vf_expression.specs.declared.read.Part.{Part}
 use Rattle.vf_expression.specs.Operators.{unary_of, binary_of, level_of}
 use Rattle.vf_expression.specs.Grammar.{Tokens, sign, name, number, system, plain, one, two, pick, selected, Rule, IsExprs, last, more, IsSelect, bit, part, up, down, IsSelects, none, single, double, IsOperand, constant, named, paren, concat, repeat, time, feof, signed, unsigned, prefix, IsExprOver, operand, binary, choice, IsExpr}
 use Rattle.vf_expression.specs.Reading.{Read, ◌>>=◌, found_or, after, operator_at, opening_at, part_at, part_form, node, more_from, exprs_at, part_from, select_from, second_select, selects_at, closed_at, argument_at, named_at, paren_at, feof_at, sign_call_at, system_at, repeat_from, concat_from, braces_at, prefixed_at, opened_at, signed_at, operand_by, operand_at, link_at, chain_at, arms_at, pick_at, chained_at, expr_over, expr_at}
-use Rattle.vf_expression.proofs.TokenLemmas.{bind_some, guard_some, some_is, text_is, token_is, after_is, IsOperator, operator_is, level_low, operator_top, operator_looser, operator_bound, opening_is, IsPartSign, part_is, IsPartText, range, part_text}
+use Rattle.vf_expression.proofs.TokenLemmas.{bind_some, guard_some, some_is, found_is, chosen, text_is, token_is, after_is, IsOperator, operator_is, level_low, operator_top, operator_looser, operator_bound, opening_is, IsPartSign, part_is, IsPartText, range, part_text}
 use Rattle.vf_expression.proofs.TokenLemmas as tokens
-
--- what was found, or nothing
-found_is : {A B : Type 0} (o : Option A) (f : A → Option B) (other : Option B) (y : B) → found_or o f other ≡ Some y → ((x : A) × (o ≡ Some x) × (f x ≡ Some y)) ⊎ ((o ≡ None) × (other ≡ Some y))
-found_is (Some x) f other y e = inl (x, refl, e)
-found_is None f other y e = inr (refl, e)
 
 node_is : (d : ℕ) (tree : TreeExpr) (n : ℕ) (rest : Tokens) (x : TreeExpr × ℕ × Tokens) → node d tree n rest ≡ Some x → (n ≤ d + 1) × ((tree, n, rest) ≡ x)
 unfolding node
@@ -77,7 +72,7 @@ module _ (P : Rule) (inner : ℕ → Tokens → Read TreeExpr) (sound : (m : ℕ
       let deep : x.1 ≡ l.1 = l.4 0 (omega arith) ∙ omega arith in
       subst (λ (n : ℕ). IsExprs P n ts x.2 x.0) (sym deep) (subst (λ (es : List TreeExpr). IsExprs P l.1 ts x.2 es) (sym l.3) l.2)
 
-  exprs_is : (ts : Tokens) (x : List TreeExpr × ℕ × Tokens) → exprs_at inner ts ≡ Some x → IsExprs P x.1 ts x.2 x.0
+  pub exprs_is : (ts : Tokens) (x : List TreeExpr × ℕ × Tokens) → exprs_at inner ts ≡ Some x → IsExprs P x.1 ts x.2 x.0
   unfolding exprs_at
   exprs_is ts x e =
       let a = bind_some (inner 1 ts) (λ a. more_from inner (length a.2) (a.0 ∷ []) a.1 a.2) x e in
@@ -128,7 +123,7 @@ module _ (P : Rule) (inner : ℕ → Tokens → Read TreeExpr) (sound : (m : ℕ
             subst (λ (y : List Select × ℕ × Tokens). IsSelects P y.1 ts y.2 y.0) same (single a is refl)
       ]
 
-  selects_is : (ts : Tokens) (x : List Select × ℕ × Tokens) → selects_at inner ts ≡ Some x → IsSelects P x.1 ts x.2 x.0
+  pub selects_is : (ts : Tokens) (x : List Select × ℕ × Tokens) → selects_at inner ts ≡ Some x → IsSelects P x.1 ts x.2 x.0
   unfolding selects_at
   selects_is ts x e =
       elim (found_is (opening_at ts) (λ o. select_from inner o.0 o.1 >>= λ a. second_select inner a.0 a.1 a.2) (Some ([], 0, ts)) x e) [
@@ -141,7 +136,7 @@ module _ (P : Rule) (inner : ℕ → Tokens → Read TreeExpr) (sound : (m : ℕ
             subst (λ (y : List Select × ℕ × Tokens). IsSelects P y.1 ts y.2 y.0) same (none refl refl refl)
       ]
 
-  closed_is : (ts : Tokens) (x : TreeExpr × ℕ × Tokens) → closed_at inner ts ≡ Some x → (q : Place) × P 1 x.1 ts (sign q (codes ")") ∷ x.2) x.0
+  pub closed_is : (ts : Tokens) (x : TreeExpr × ℕ × Tokens) → closed_at inner ts ≡ Some x → (q : Place) × P 1 x.1 ts (sign q (codes ")") ∷ x.2) x.0
   unfolding closed_at
   closed_is ts x e =
       let a = bind_some (inner 1 ts) (λ a. after (codes ")") a.2 >>= λ rest. Some (a.0, a.1, rest)) x e in
@@ -149,7 +144,7 @@ module _ (P : Rule) (inner : ℕ → Tokens → Read TreeExpr) (sound : (m : ℕ
       let same : (a.0.0, a.0.1, b.0) ≡ x = some_is _ x b.2 in
       subst (λ (y : TreeExpr × ℕ × Tokens). (q : Place) × P 1 y.1 ts (sign q (codes ")") ∷ y.2) y.0) same (before_sign ts a.0 (codes ")") b.0 a.1 b.1)
 
-  argument_is : (ts : Tokens) (x : TreeExpr × ℕ × Tokens) → argument_at inner ts ≡ Some x → (p q : Place) × (us : Tokens) × (ts ≡ sign p (codes "(") ∷ us) × P 1 x.1 us (sign q (codes ")") ∷ x.2) x.0
+  pub argument_is : (ts : Tokens) (x : TreeExpr × ℕ × Tokens) → argument_at inner ts ≡ Some x → (p q : Place) × (us : Tokens) × (ts ≡ sign p (codes "(") ∷ us) × P 1 x.1 us (sign q (codes ")") ∷ x.2) x.0
   unfolding argument_at
   argument_is ts x e =
       let a = bind_some (after (codes "(") ts) (λ us. closed_at inner us) x e in
@@ -201,14 +196,6 @@ module _ (P : Rule) (inner : ℕ → Tokens → Read TreeExpr) (sound : (m : ℕ
         let a = bind_some (argument_at inner ts) (λ a. node d (plain p (primary.Sign call.Unsigned a.0)) (a.1 + 1) a.2) x e in
         let c = argument_is ts a.0 a.1 in
         made _ _ _ (system p (codes "$unsigned") ∷ ts) x a.2 (unsigned a.0.1 p c.0 c.1 c.2 a.0.0 c.4 (ap (λ (us : Tokens). system p (codes "$unsigned") ∷ us) c.3) refl refl)
-
-    -- a choice by the text of a token
-    chosen : {A : Type 0} (text wanted : List ℕ) (a b : Option A) (x : A) (R : List ℕ → Type 0) → cond (bytes_eq text wanted) a b ≡ Some x → (a ≡ Some x → R wanted) → (b ≡ Some x → R text) → R text
-    chosen text wanted a b x R e f g =
-        elim (cases_Bool (bytes_eq text wanted)) [
-          | inl same ↦ subst R (sym (text_is text wanted same)) (f (rw same at e))
-          | inr other ↦ g (rw other at e)
-        ]
 
     system_is : (p : Place) (text : List ℕ) (ts : Tokens) (x : TreeExpr × ℕ × Tokens) → system_at inner d p text ts ≡ Some x → Good (system p text ∷ ts) x
     unfolding system_at

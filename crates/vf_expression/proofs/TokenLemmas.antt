@@ -1,5 +1,5 @@
 -- Tokens at the front of a list, and steps of reading.
-use Rattle.std.proofs.Common.{◌≡◌, ℕ, ◌+◌, ◌<◌, ◌≤◌, Bool, true, false, cond, leb, List, [], ◌∷◌, Option, Some, None, refl, ap, sym, ◌∙◌, codes, inl, inr, arith}
+use Rattle.std.proofs.Common.{◌≡◌, ℕ, ◌+◌, ◌<◌, ◌≤◌, ◌⊎◌, Bool, true, false, cond, leb, List, [], ◌∷◌, Option, Some, None, refl, ap, subst, sym, ◌∙◌, codes, inl, inr, arith}
 use Rattle.std.specs.Str.{bytes_eq}
 use Rattle.std.proofs.lemmas.Bool.{cases_Bool, leb-true, leb-false, le-leb, false_from_ne_true}
 use Rattle.std.proofs.lemmas.Slice.Eq.{bytes_eq-Decides}
@@ -13,7 +13,7 @@ use Rattle.vf_expression.specs.declared.read.Part.{Part}
 use Rattle.vf_expression.specs.declared.read.Part.TheVariants as parts
 use Rattle.vf_expression.specs.Operators.{binary_of, level_of}
 use Rattle.vf_expression.specs.Grammar.{Tokens, sign}
-use Rattle.vf_expression.specs.Reading.{◌>>=◌, is_sign, sign_text, after, operator_at, opening_at, part_of, part_at}
+use Rattle.vf_expression.specs.Reading.{◌>>=◌, found_or, is_sign, sign_text, after, operator_at, opening_at, part_of, part_at}
 
 -- a step that gave something
 pub bind_some : {A B : Type 0} (r : Option A) (f : A → Option B) (y : B) → (r >>= f) ≡ Some y → (x : A) × (r ≡ Some x) × (f x ≡ Some y)
@@ -28,11 +28,24 @@ guard_some false x y e = absurd cc
 pub some_is : {A : Type 0} (x y : A) → Some x ≡ Some y → x ≡ y
 some_is x y e = cc
 
+-- what was found, or nothing
+pub found_is : {A B : Type 0} (o : Option A) (f : A → Option B) (other : Option B) (y : B) → found_or o f other ≡ Some y → ((x : A) × (o ≡ Some x) × (f x ≡ Some y)) ⊎ ((o ≡ None) × (other ≡ Some y))
+found_is (Some x) f other y e = inl (x, refl, e)
+found_is None f other y e = inr (refl, e)
+
 pub same_text : (text : List ℕ) → bytes_eq text text ≡ true
 same_text text = (bytes_eq-Decides text text).1 refl
 
 pub text_is : (a b : List ℕ) → bytes_eq a b ≡ true → a ≡ b
 text_is a b e = (bytes_eq-Decides a b).0 e
+
+-- a choice by the text of a token
+pub chosen : {A : Type 0} (text wanted : List ℕ) (a b : Option A) (x : A) (R : List ℕ → Type 0) → cond (bytes_eq text wanted) a b ≡ Some x → (a ≡ Some x → R wanted) → (b ≡ Some x → R text) → R text
+chosen text wanted a b x R e f g =
+    elim (cases_Bool (bytes_eq text wanted)) [
+      | inl same ↦ subst R (sym (text_is text wanted same)) (f (rw same at e))
+      | inr other ↦ g (rw other at e)
+    ]
 
 -- ---- a sign at the front
 

@@ -121,7 +121,7 @@ fn more<'a>(
 /// Expressions with commas between them.
 #[cycle(expressions)]
 #[tactic(auto, unfolding(crate::specs::Reading::exprs_at))]
-fn exprs<'a>(alloc: Global, depth: u32, tokens: &'a [Token]) -> Read<'a, Items<TreeExpr>>
+pub fn exprs<'a>(alloc: Global, depth: u32, tokens: &'a [Token]) -> Read<'a, Items<TreeExpr>>
     requires { depth ≤ 200 }
     ensures value { Gives (λ x. (x.0, x.1, x.2.now)) result (exprs_at (expr_at depth) tokens.now) }
     ensures small { IfOk result (λ x. x.1 ≤ depth) }
@@ -201,7 +201,7 @@ fn second_select<'a>(
 /// The selects in front, two at most.
 #[cycle(expressions)]
 #[tactic(auto, unfolding(crate::specs::Reading::selects_at))]
-fn selects<'a>(alloc: Global, depth: u32, tokens: &'a [Token]) -> Read<'a, Items<Select>>
+pub fn selects<'a>(alloc: Global, depth: u32, tokens: &'a [Token]) -> Read<'a, Items<Select>>
     requires { depth ≤ 200 }
     ensures value { Gives (λ x. (x.0, x.1, x.2.now)) result (selects_at (expr_at depth) tokens.now) }
     ensures small { IfOk result (λ x. x.1 ≤ depth) }
@@ -241,7 +241,7 @@ fn named<'a>(
 /// An expression in parentheses, after its `(`.
 #[cycle(expressions)]
 #[tactic(auto, unfolding(crate::specs::Reading::closed_at))]
-fn closed<'a>(alloc: Global, depth: u32, tokens: &'a [Token]) -> Read<'a, TreeExpr>
+pub fn closed<'a>(alloc: Global, depth: u32, tokens: &'a [Token]) -> Read<'a, TreeExpr>
     requires { depth ≤ 200 }
     ensures value { Gives (λ x. (x.0, x.1, x.2.now)) result (closed_at (expr_at depth) tokens.now) }
     ensures small { IfOk result (λ x. x.1 ≤ depth) }
@@ -266,7 +266,7 @@ fn paren<'a>(alloc: Global, depth: u32, place: Place, tokens: &'a [Token]) -> Re
 /// The argument of a system function, with its parentheses.
 #[cycle(expressions)]
 #[tactic(auto, unfolding(crate::specs::Reading::argument_at))]
-fn argument<'a>(alloc: Global, depth: u32, tokens: &'a [Token]) -> Read<'a, TreeExpr>
+pub fn argument<'a>(alloc: Global, depth: u32, tokens: &'a [Token]) -> Read<'a, TreeExpr>
     requires { depth ≤ 200 }
     ensures value { Gives (λ x. (x.0, x.1, x.2.now)) result (argument_at (expr_at depth) tokens.now) }
     ensures small { IfOk result (λ x. x.1 ≤ depth) }

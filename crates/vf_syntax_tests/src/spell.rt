@@ -29,7 +29,7 @@ impl Spelling {
         Ok(())
     }
 
-    fn number(&mut self, number: u128) -> Result<(), Memory> {
+    pub fn number(&mut self, number: u128) -> Result<(), Memory> {
         let small = u64::try_from(number).unwrap_or(u64::MAX);
         write_decimal(small, &mut self.bytes)
     }
@@ -104,7 +104,7 @@ fn spell_pair(
 }
 
 #[cycle(spelling)]
-fn spell_select(depth: u32, select: &Select, into: &mut Spelling) -> Result<(), Memory> {
+pub fn spell_select(depth: u32, select: &Select, into: &mut Spelling) -> Result<(), Memory> {
     into.place(select.place)?;
     into.text(b"[")?;
     match &select.form {

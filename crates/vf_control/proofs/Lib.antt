@@ -1,0 +1,8 @@
+pub mod Nesting
+pub mod ListLemmas
+mod WordLemmas
+mod Shorter
+mod Sound
+mod Complete
+mod Wholes
+pub mod CallerLemmas

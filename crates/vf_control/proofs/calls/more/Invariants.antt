@@ -1,0 +1,13 @@
+use Rattle.std.proofs.Common.{◌≡◌, ◌-◌, ◌≤◌, [], ◌∷◌, length, codes}
+use Rattle.vf_expression.specs.Reading.{expr_at, after}
+use Rattle.vf_control.specs.Lists.{many_from}
+use Rattle.vf_control.specs.Reading.{arg_at}
+use Rattle.vf_control.proofs.calls.more.Given as goal
+
+-- what is still read is what was to be read
+abbrev pub invariant-loop : goal.invariant-loop
+invariant-loop l = record {
+  same : many_from (after (codes ",")) (arg_at (expr_at l.depth)) (l.end - l.counter) l.items l.deepest l.rest
+      ≡ many_from (after (codes ",")) (arg_at (expr_at l.depth)) (length l.tokens) (l.fn.first ∷ []) l.fn.deep l.tokens;
+  small : l.deepest ≤ l.depth;
+}
