@@ -1,5 +1,5 @@
 -- What the grammar says is read, where nothing follows that would go on with it.
-use Rattle.std.proofs.Common.{◌≡◌, ℕ, zero, suc, ◌<◌, ◌≤◌, max, List, [], ◌∷◌, length, Option, Some, None, refl, subst, sym, codes, arith}
+use Rattle.std.proofs.Common.{◌≡◌, ℕ, zero, suc, ◌<◌, ◌≤◌, max, [], ◌∷◌, length, Option, Some, None, refl, codes, arith}
 use Rattle.vf_base.specs.declared.names.Place.{Place}
 use Rattle.vf_tree.specs.declared.expressions.TreeExpr.{TreeExpr}
 use Rattle.vf_tree.specs.declared.statements.Target.{Target}
@@ -10,10 +10,10 @@ use Rattle.vf_tree.specs.declared.statements.NextEvent.{NextEvent}
 use Rattle.vf_tree.specs.declared.statements.Events.{Events}
 use Rattle.vf_tree.specs.declared.statements.Arg.{Arg}
 use Rattle.vf_tree.specs.declared.statements.Task.{Task}
-use Rattle.vf_expression.specs.Grammar.{Tokens, sign, word, IsExpr}
-use Rattle.vf_expression.specs.Reading.{Read, Ends, found_or, after, opening_at, expr_at}
+use Rattle.vf_expression.specs.Grammar.{Tokens, sign, IsExpr}
+use Rattle.vf_expression.specs.Reading.{Read, Ends, after, opening_at, expr_at}
 use Rattle.vf_expression.proofs.CallerLemmas.{after_again, after_other, opening_other, ends_close, ends_bracket, ends_comma, expr_reads, selects_reads, closed_reads, string_no_expr}
-use Rattle.vf_control.specs.Lists.{Part, IsMany, many_from, list_at}
+use Rattle.vf_control.specs.Lists.{Part, many_from, list_at}
 use Rattle.vf_control.specs.Grammar.{quoted, IsTargetOver, single, concat, IsTargetWithin, IsDelay, by_number, by_name, by_expr, IsBit, whole, one_bit, IsEvent, change, edged, IsNextEvent, by_or, by_comma, IsEvents, star, star_paren, name_alone, event_list, IsArg, string, value, IsTask, show, show_args, save, end, end_number}
 use Rattle.vf_control.specs.Reading as reading
 use Rattle.vf_control.specs.Reading.{string_at, join_at, concat_at, named_at, target_over, target_within, delay_expr, delay_after, delay_at, bit_from, bit_at, named_event, edged_event, word_event, event_at, next_event, events_paren, events_sign, events_at, arg_value, arg_at, show_from, save_from, end_from, ended_by, saved_by, called_by, task_at}
@@ -96,7 +96,7 @@ module _ (d : ℕ) where
       let closing : after (codes "[") (sign q (codes ")") ∷ rest) ≡ None = after_other (codes "[") (codes ")") q rest refl in
       let follows : after (codes "[") vs ≡ None = many_follows (IsNextEvent (IsExpr d)) join_at (next_event (expr_at d)) d (λ ws. after (codes "[") ws ≡ None) (next_event_shorter d) next_follows next_again k vs (sign q (codes ")") ∷ rest) others more closing in
       let later : many_from join_at (next_event (expr_at d)) (length vs) [] m vs ≡ Some (others, max m k, sign q (codes ")") ∷ rest)
-          = many_reads (IsNextEvent (IsExpr d)) join_at (next_event (expr_at d)) d (λ ws. after (codes "[") ws ≡ None) (next_event_shorter d) next_follows next_again k vs (sign q (codes ")") ∷ rest) others more (length vs) [] m (omega arith) (omega arith) closing (no_join q rest) in
+      = many_reads (IsNextEvent (IsExpr d)) join_at (next_event (expr_at d)) d (λ ws. after (codes "[") ws ≡ None) (next_event_shorter d) next_follows next_again k vs (sign q (codes ")") ∷ rest) others more (length vs) [] m (omega arith) (omega arith) closing (no_join q rest) in
       rw (spelled, deep, t, no_star m us vs first is, event_again m us vs first is follows, later, after_again (codes ")") q rest) refl
 
   -- ---- system tasks
@@ -110,7 +110,7 @@ module _ (d : ℕ) where
   arg_again : (n : ℕ) (ts rest : Tokens) (tree : Arg) → IsArg (IsExpr d) n ts rest tree → n ≤ d → Ends 1 rest → arg_at (expr_at d) ts ≡ Some (tree, n, rest)
   unfolding arg_at arg_value
   arg_again n ts rest tree (string p text spelled deep t) small ends = rw (spelled, deep, t, string_again p text rest) refl
-  arg_again n ts rest tree (value e is t) small ends = 
+  arg_again n ts rest tree (value e is t) small ends =
       let read : expr_at d 1 ts ≡ Some (e, n, rest) = expr_reads d 1 n ts rest e is ends in
       rw (t, no_string n ts rest e read, read) refl
 

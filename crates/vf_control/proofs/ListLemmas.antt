@@ -3,7 +3,7 @@ use Rattle.std.proofs.Common.{◌≡◌, ℕ, zero, suc, ◌+◌, ◌-◌, ◌<�
 use Rattle.std.proofs.lemmas.List.{append-nil}
 use Rattle.vf_base.specs.declared.names.Place.{Place}
 use Rattle.vf_expression.specs.Grammar.{Tokens, sign}
-use Rattle.vf_expression.specs.Reading.{Read, ◌>>=◌, found_or, after}
+use Rattle.vf_expression.specs.Reading.{Read, ◌>>=◌, after}
 use Rattle.vf_expression.proofs.CallerLemmas.{bind_some, some_is, found_is, after_is, after_again}
 use Rattle.vf_control.specs.Lists.{Part, IsMany, no_more, one_more, IsNext, next, IsList, listed, many_from, list_at}
 

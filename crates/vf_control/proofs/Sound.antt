@@ -1,6 +1,5 @@
 -- What the readers read is what the grammar says.
-use Rattle.std.proofs.Common.{◌≡◌, ℕ, zero, suc, max, cond, List, [], ◌∷◌, length, Option, Some, None, refl, ap, subst, sym, ◌∙◌, inl, inr, codes, arith}
-use Rattle.std.specs.Str.{bytes_eq}
+use Rattle.std.proofs.Common.{◌≡◌, ℕ, zero, suc, List, [], ◌∷◌, length, Option, Some, None, refl, ap, subst, sym, ◌∙◌, inl, inr, codes}
 use Rattle.vf_base.specs.declared.names.Place.{Place}
 use Rattle.vf_lexeme.specs.declared.kinds.TokenKind.{TokenKind}
 use Rattle.vf_lexeme.specs.declared.kinds.TokenKind.TheVariants as token
@@ -12,7 +11,6 @@ use Rattle.vf_tree.specs.declared.statements.DelayForm.TheVariants as delays
 use Rattle.vf_tree.specs.declared.statements.EdgeWord.{EdgeWord}
 use Rattle.vf_tree.specs.declared.statements.Event.{Event}
 use Rattle.vf_tree.specs.declared.statements.EventJoin.{EventJoin}
-use Rattle.vf_tree.specs.declared.statements.EventJoin.TheVariants as join
 use Rattle.vf_tree.specs.declared.statements.NextEvent.{NextEvent}
 use Rattle.vf_tree.specs.declared.statements.Events.{Events}
 use Rattle.vf_tree.specs.declared.statements.EventsForm.TheVariants as waits
@@ -23,7 +21,7 @@ use Rattle.vf_tree.specs.declared.statements.EndWord.{EndWord}
 use Rattle.vf_tree.specs.declared.statements.Task.{Task}
 use Rattle.vf_tree.specs.declared.statements.TaskForm.TheVariants as tasks
 use Rattle.vf_expression.specs.Grammar.{Tokens, sign, word, name, system, IsExpr}
-use Rattle.vf_expression.specs.Reading.{Read, ◌>>=◌, found_or, is_sign, after, selects_at, closed_at, expr_at}
+use Rattle.vf_expression.specs.Reading.{Read, ◌>>=◌, is_sign, after, selects_at, closed_at, expr_at}
 use Rattle.vf_expression.proofs.CallerLemmas.{bind_some, some_is, found_is, chosen, kind_is, token_is, after_is, expr_read, selects_read, closed_read}
 use Rattle.vf_control.specs.Lists.{Part, IsMany, IsList, many_from, list_at}
 use Rattle.vf_control.specs.Words.{edge_of, show_of, save_of, end_of}
@@ -190,7 +188,7 @@ module _ (d : ℕ) where
       let q = after_is (codes ")") l.0.2 r.0 r.1 in
       let m = many_read (IsNextEvent (IsExpr d)) join_at (next_event (expr_at d)) next_event_is (length a.0.2) [] a.0.1 a.0.2 l.0 l.1 in
       let others : IsMany (IsNextEvent (IsExpr d)) m.depth a.0.2 (sign q.0 (codes ")") ∷ r.0) l.0.0
-          = subst (λ ws. IsMany (IsNextEvent (IsExpr d)) m.depth a.0.2 ws l.0.0) q.1 (subst (λ (es : List NextEvent). IsMany (IsNextEvent (IsExpr d)) m.depth a.0.2 l.0.2 es) (sym m.joined) m.is) in
+      = subst (λ ws. IsMany (IsNextEvent (IsExpr d)) m.depth a.0.2 ws l.0.0) q.1 (subst (λ (es : List NextEvent). IsMany (IsNextEvent (IsExpr d)) m.depth a.0.2 l.0.2 es) (sym m.joined) m.is) in
       done (IsEvents (IsExpr d)) (sign p (codes "(") ∷ ts) (waited p (waits.List a.0.0 l.0.0), l.0.1, r.0) x r.2
       (event_list a.0.1 m.depth p q.0 ts a.0.2 a.0.0 l.0.0 (event_is ts a.0 a.1) others refl m.deepest refl)
 

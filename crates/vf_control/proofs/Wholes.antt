@@ -1,5 +1,5 @@
 -- Each reader and its rule.
-use Rattle.std.proofs.Common.{ℕ, refl}
+use Rattle.std.proofs.Common.{ℕ}
 use Rattle.vf_control.specs.Reading.{ReadingsAreControls}
 use Rattle.vf_control.proofs.Sound.{target_is, delay_is, events_are, task_is}
 use Rattle.vf_control.proofs.Complete.{target_again, delay_again, events_again, task_again}

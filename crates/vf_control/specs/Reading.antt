@@ -1,6 +1,6 @@
 -- What the readers do, as functions on lists of tokens. The grammar does not rest on them: the proofs show that they read
 -- exactly what it says.
-use Rattle.std.specs.Prelude.{◌≡◌, ℕ, zero, suc, ◌≤◌, max, List, [], ◌∷◌, length, Option, Some, None, codes, if◌then◌else◌}
+use Rattle.std.specs.Prelude.{◌≡◌, ℕ, zero, suc, ◌≤◌, List, [], ◌∷◌, length, Option, Some, None, codes, if◌then◌else◌}
 use Rattle.std.specs.Str.{bytes_eq}
 use Rattle.vf_base.specs.declared.names.Place.{Place}
 use Rattle.vf_lexeme.specs.declared.kinds.TokenKind.{TokenKind}

@@ -73,12 +73,7 @@ fn more<'a>(
 /// Targets with commas between them.
 #[cycle(targets)]
 #[tactic(auto, unfolding(crate::specs::Lists::list_at))]
-fn list<'a>(
-    alloc: Global,
-    depth: u32,
-    nesting: u32,
-    tokens: &'a [Token],
-) -> Read<'a, Items<Target>>
+fn list<'a>(alloc: Global, depth: u32, nesting: u32, tokens: &'a [Token]) -> Read<'a, Items<Target>>
     requires { depth ≤ 200 }
     ensures value { Gives (λ x. (x.0, x.1, x.2.now)) result (list_at (target_within (expr_at depth) nesting) tokens.now) }
     ensures small { IfOk result (λ x. x.1 ≤ depth) }
@@ -129,22 +124,15 @@ fn target_by<'a>(
             }
             Err(Stop::Unexpected(rest.len() + 1))
         }
-        TokenKind::System(_)
-        | TokenKind::Word(_)
-        | TokenKind::Number(_)
-        | TokenKind::Quoted(_) => Err(Stop::Unexpected(rest.len() + 1)),
+        TokenKind::System(_) | TokenKind::Word(_) | TokenKind::Number(_) | TokenKind::Quoted(_) =>
+            Err(Stop::Unexpected(rest.len() + 1)),
     }
 }
 
 /// A target, and `nesting` at most inside one another in it.
 #[cycle(targets)]
 #[tactic(auto, unfolding(crate::specs::Reading::target_over))]
-fn target_over<'a>(
-    alloc: Global,
-    depth: u32,
-    nesting: u32,
-    tokens: &'a [Token],
-) -> Read<'a, Target>
+fn target_over<'a>(alloc: Global, depth: u32, nesting: u32, tokens: &'a [Token]) -> Read<'a, Target>
     requires { depth ≤ 200 }
     ensures value { Gives (λ x. (x.0, x.1, x.2.now)) result (target_over (expr_at depth) (target_within (expr_at depth) nesting) tokens.now) }
     ensures small { IfOk result (λ x. x.1 ≤ depth) }

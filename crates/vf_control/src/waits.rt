@@ -179,10 +179,8 @@ fn event_by<'a>(alloc: Global, depth: u32, first: &Token, rest: &'a [Token]) -> 
             named_event(alloc, depth, place, None, name, rest)
         }
         TokenKind::Word(text) => word_event(alloc, depth, place, text, rest),
-        TokenKind::Sign(_)
-        | TokenKind::System(_)
-        | TokenKind::Number(_)
-        | TokenKind::Quoted(_) => Err(Stop::Unexpected(rest.len() + 1)),
+        TokenKind::Sign(_) | TokenKind::System(_) | TokenKind::Number(_) | TokenKind::Quoted(_) =>
+            Err(Stop::Unexpected(rest.len() + 1)),
     }
 }
 
@@ -217,12 +215,7 @@ fn next_event<'a>(
 
 /// The further events of a list; `deep` is the depth of the first one.
 #[tactic(auto, unfolding(crate::specs::Lists::many_from))]
-fn more<'a>(
-    alloc: Global,
-    depth: u32,
-    deep: u32,
-    tokens: &'a [Token],
-) -> Read<'a, Items<NextEvent>>
+fn more<'a>(alloc: Global, depth: u32, deep: u32, tokens: &'a [Token]) -> Read<'a, Items<NextEvent>>
     requires small { depth ≤ 200 }
     requires first_small { deep ≤ depth }
     ensures value { Gives (λ x. (x.0, x.1, x.2.now)) result (many_from join_at (next_event (expr_at depth)) (length tokens.now) [] deep tokens.now) }
@@ -325,10 +318,8 @@ fn events_by<'a>(alloc: Global, depth: u32, first: &Token, rest: &'a [Token]) ->
             Ok((Events { place, form }, 0, rest))
         }
         TokenKind::Sign(text) => events_sign(alloc, depth, place, text.bytes(), rest),
-        TokenKind::System(_)
-        | TokenKind::Word(_)
-        | TokenKind::Number(_)
-        | TokenKind::Quoted(_) => Err(Stop::Unexpected(rest.len() + 1)),
+        TokenKind::System(_) | TokenKind::Word(_) | TokenKind::Number(_) | TokenKind::Quoted(_) =>
+            Err(Stop::Unexpected(rest.len() + 1)),
     }
 }
 

@@ -233,7 +233,7 @@ fn events_rows() -> [(&'static str, &'static str); 36] {
         ("1", "!@1:1 "),
         ("posedge c", "!@1:1 "),
         ("()", "!@1:2 "),
-        ("(*", "!end"),
+        ("( *", "!end"),
         ("(* a)", "!tokens"),
         ("( * a)", "!@1:5 "),
         ("(a", "!end"),
@@ -322,15 +322,45 @@ fn placed(
 #[test]
 fn places(rt: HostRuntime) -> Result<(), Fail> {
     let alloc = rt.alloc();
-    placed(&rt, alloc, Rule::Target, "{ a,\n b[1]}", "@1:1 {@1:3 @1:3 a,@2:2 @2:2 b@2:3 [@2:4 @2:4 1]} 1 0")?;
+    placed(
+        &rt,
+        alloc,
+        Rule::Target,
+        "{ a,\n b[1]}",
+        "@1:1 {@1:3 @1:3 a,@2:2 @2:2 b@2:3 [@2:4 @2:4 1]} 1 0",
+    )?;
     placed(&rt, alloc, Rule::Delay, "# 5", "@1:1 #@1:3 5 0 0")?;
     placed(&rt, alloc, Rule::Delay, "#\nt", "@1:1 #@2:1 t 0 0")?;
     placed(&rt, alloc, Rule::Delay, "#(t)", "@1:1 #(@1:3 @1:3 t) 1 0")?;
     placed(&rt, alloc, Rule::Events, "c", "@1:1 @1:1 c 0 0")?;
-    placed(&rt, alloc, Rule::Events, "(posedge c or d[1])", "@1:1 (@1:2 posedge @1:10 c or @1:15 @1:15 d[@1:17 @1:17 1]) 1 0")?;
-    placed(&rt, alloc, Rule::Task, "$write(\"a\", b)", "@1:1 $write(@1:8 @1:8 \"a\",@1:13 @1:13 @1:13 b) 1 0")?;
-    placed(&rt, alloc, Rule::Task, "$save( \"a\")", "@1:1 $save(@1:8 \"a\") 0 0")?;
-    placed(&rt, alloc, Rule::Task, "$stop( 1)", "@1:1 $stop(@1:8 @1:8 1) 1 0")?;
+    placed(
+        &rt,
+        alloc,
+        Rule::Events,
+        "(posedge c or d[1])",
+        "@1:1 (@1:2 posedge @1:10 c or @1:15 @1:15 d[@1:17 @1:17 1]) 1 0",
+    )?;
+    placed(
+        &rt,
+        alloc,
+        Rule::Task,
+        "$write(\"a\", b)",
+        "@1:1 $write(@1:8 @1:8 \"a\",@1:13 @1:13 @1:13 b) 1 0",
+    )?;
+    placed(
+        &rt,
+        alloc,
+        Rule::Task,
+        "$save( \"a\")",
+        "@1:1 $save(@1:8 \"a\") 0 0",
+    )?;
+    placed(
+        &rt,
+        alloc,
+        Rule::Task,
+        "$stop( 1)",
+        "@1:1 $stop(@1:8 @1:8 1) 1 0",
+    )?;
     Ok(())
 }
 
@@ -364,7 +394,10 @@ fn depths(rt: HostRuntime) -> Result<(), Fail> {
     for (rule, text, depth) in rows {
         assert!(rt; fits(&rt, alloc, rule, depth, text)?, "{text} at its depth");
         if depth > 0 {
-            assert!(rt; !fits(&rt, alloc, rule, depth - 1, text)?, "{text} above the depth");
+            assert!(rt;
+                !fits(&rt, alloc, rule, depth - 1, text)?,
+                "{text} above the depth"
+            );
         }
     }
     Ok(())
