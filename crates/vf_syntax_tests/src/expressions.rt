@@ -267,7 +267,7 @@ fn places(rt: HostRuntime) -> Result<(), Fail> {
 }
 
 /// The text so many times, then the middle, then the other text as often.
-fn nested(
+pub fn nested(
     alloc: Global,
     open: &[u8],
     middle: &[u8],

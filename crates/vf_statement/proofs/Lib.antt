@@ -1,0 +1,8 @@
+pub mod Depth
+mod FrontLemmas
+mod Small
+mod Sound
+mod Shorter
+mod Complete
+mod Wholes
+pub mod CallerLemmas
