@@ -396,8 +396,8 @@ module _ (P : Rule) (inner : Tokens → Read Stmt) (d : ℕ)
       rw deep (record {
         bare = citem_bare a m ts vs i x later.bare (citem_one a m ts vs i x);
         read = λ f seen before n fits most.
-          let first = citem_again a m ts vs i x later.bare seen (omega arith) in
-          citems_next f seen first.now before n m j ts vs rest i others (citem_shorter d P shorter a m ts vs i x) fits first.read (λ g list h less. later.read g first.now list h less (omega (arith, first.counted)));
+            let first = citem_again a m ts vs i x later.bare seen (omega arith) in
+            citems_next f seen first.now before n m j ts vs rest i others (citem_shorter d P shorter a m ts vs i x) fits first.read (λ g list h less. later.read g first.now list h less (omega (arith, first.counted)));
       })
 
   case_again : (a b m j k : ℕ) (p q : Place) (w : CaseWord) (us vs ws rest : Tokens) (e : TreeExpr) (i : Citem) (others : List Citem) → IsCond d m us vs e → IsCitem d P a j vs ws i

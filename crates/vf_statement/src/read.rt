@@ -160,7 +160,13 @@ fn delayed<'a>(alloc: Global, depth: u32, place: Place, tokens: &'a [Token]) -> 
 {
     let (delay, deep, rest) = delay(alloc, depth, tokens)?;
     let (body, other, rest) = stmt(alloc, depth, rest)?;
-    made(alloc, place, StmtForm::Delayed { delay, body }, deep.max(other), rest)
+    made(
+        alloc,
+        place,
+        StmtForm::Delayed { delay, body },
+        deep.max(other),
+        rest,
+    )
 }
 
 /// A statement after an event control, after its `@` (clause 9.7.2).
@@ -173,7 +179,13 @@ fn on<'a>(alloc: Global, depth: u32, place: Place, tokens: &'a [Token]) -> Read<
 {
     let (events, deep, rest) = events(alloc, depth, tokens)?;
     let (body, other, rest) = stmt(alloc, depth, rest)?;
-    made(alloc, place, StmtForm::On { events, body }, deep.max(other), rest)
+    made(
+        alloc,
+        place,
+        StmtForm::On { events, body },
+        deep.max(other),
+        rest,
+    )
 }
 
 /// The default of a `case` after its word.

@@ -201,7 +201,11 @@ pub fn for_head<'a>(alloc: Global, depth: u32, tokens: &'a [Token]) -> Read<'a, 
     let rest = after(b";", rest)?;
     let (step, another, rest) = assign_part(alloc, depth, rest)?;
     let rest = after(b")", rest)?;
-    Ok((ForHead { start, cond, step }, deep.max(other.max(another)), rest))
+    Ok((
+        ForHead { start, cond, step },
+        deep.max(other.max(another)),
+        rest,
+    ))
 }
 
 /// The form of a `for` with its statement.

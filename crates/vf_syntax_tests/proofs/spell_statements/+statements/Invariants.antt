@@ -24,4 +24,3 @@ decreases-spell_simple l = 4 * l.depth + 1
 
 abbrev pub decreases-spell_stmt_form : goal.decreases-spell_stmt_form
 decreases-spell_stmt_form l = 4 * l.depth + 3
-
