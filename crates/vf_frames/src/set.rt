@@ -43,7 +43,8 @@ impl FrameSet {
             ≡ ((g == frame) || has g (frames_in self.old.limit self.old.words.items)) }
         ensures limit { self.new.limit ≡ self.old.limit }
     {
-        self.count = self.count.saturating_add(1).min(self.limit);
+        let _limit = self.limit;
+        self.count = self.count.saturating_add(1);
         self.words[(frame / 64) as usize] |= 1 << (frame % 64);
     }
 
@@ -54,7 +55,7 @@ impl FrameSet {
         ensures limit { self.new.limit ≡ self.old.limit }
     {
         self.words[(frame / 64) as usize] &= !(1 << (frame % 64));
-        self.count = self.count.saturating_sub(1);
+        self.count -= 1;
     }
 
     pub(crate) fn unite(&mut self, other: &FrameSet)

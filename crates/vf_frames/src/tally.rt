@@ -74,8 +74,8 @@ impl Tally {
         ensures len { length self.new ≡ length self.old }
     {
         let number = self.numbers[frame as usize];
-        if number > 0 {
-            self.numbers[frame as usize] = number.saturating_add(1);
+        if 0 < number && number < u64::MAX {
+            self.numbers[frame as usize] = number + 1;
         }
     }
 

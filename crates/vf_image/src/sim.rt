@@ -68,6 +68,17 @@ fn save_of(mark: Mark) -> Option<SaveKind>
     }
 }
 
+// Appends the bytes of a turn; most turns have none.
+fn append(bytes: &[u8], text: &mut Text) -> Result<(), Memory>
+    ensures ok { OnOk result (text.new ≡ text.old ++ bytes.now) }
+    ensures err { OnErr result (text.new ≡ text.old) }
+{
+    if bytes.is_empty() {
+        return Ok(());
+    }
+    text.push_all(bytes)
+}
+
 fn is_short(refusal: &PageRefusal) -> bool
     ensures { result ≡ is_short refusal.now }
 {
@@ -321,7 +332,7 @@ impl<F: Frames> Sim<F> {
         ensures pool { SamePool (F.name pool.old) (F.numbers pool.old) (F.name pool.new) (F.numbers pool.new) }
     {
         let before = self.text.bytes().len();
-        if self.text.push_all(turn.text.bytes()).is_err() {
+        if append(turn.text.bytes(), &mut self.text).is_err() {
             return Err(PageRefusal::Memory);
         }
         match self.pages.write_all(pool, &turn.writes) {

@@ -1,5 +1,6 @@
 ghost use Rattle.std.specs.Prelude.{◌≡◌, ℕ, ◌+◌, ◌*◌, ◌≤◌, [], ◌∷◌, List, length, vec_len, vec_capacity, IfErr, IfOk, OnOk, OnErr};
 ghost use Rattle.std.specs.Arc.{arc_value};
+ghost use Rattle.vf_base.specs.declared.write.TheConstants.{PAGE_WORDS};
 ghost use Rattle.vf_frames.specs.declared.holder.Holder.{Holder};
 ghost use Rattle.vf_frames.specs.Holders.{Accounts, Keeps, SamePool};
 ghost use Rattle.vf_pages.specs.Pages.{IsSorted, IsHeld};
@@ -10,7 +11,6 @@ ghost use Rattle.vf_pages.specs.Places.{IsTable};
 ghost use Rattle.vf_pages.specs.Gathered.{OnLack};
 ghost use Rattle.vf_pages.specs.Calls.{Wrote, WroteAmong, IsShort, ShortAmong, OnRefusal, IsUnmade};
 
-use crate::alone::write_alone;
 use crate::gather::{Lack, gather, give_up};
 use crate::held::Held;
 use crate::install::install;
@@ -76,9 +76,9 @@ fn make_room(
     Ok(spare_room(held, fresh, writes, words)?)
 }
 
-// Writes words over the pages of one holder, whichever they are.
+/// Writes words over the pages of one holder, whichever they are.
 #[inline(never)]
-fn change_pages<F: Frames>(
+pub(crate) fn change_pages<F: Frames>(
     zero: &Arc<Vec<u64>>,
     held: &mut Vec<Held>,
     places: &mut Vec<u32>,
@@ -91,7 +91,7 @@ fn change_pages<F: Frames>(
     requires held { IsHeld (pages_of held.old.items) (F.seen token.old).frames }
     requires writes { AreWrites (length (arc_value zero.now).items) writes.now }
     requires table { IsTable places.old.items (pages_of held.old.items) }
-    requires wide { length (arc_value zero.now).items ≤ 64 * length places.old.items }
+    requires wide { length (arc_value zero.now).items ≤ PAGE_WORDS * length places.old.items }
     ensures ok { OnOk result (Wrote writes.now
         (shown (arc_value zero.now).items held.old.items (F.seen token.old))
         (shown (arc_value zero.now).items held.new.items (F.seen token.new))) }
@@ -138,53 +138,4 @@ fn change_pages<F: Frames>(
     install(pool, token, held, fresh, spare);
     note_added(held, places, before);
     Ok(())
-}
-
-/// Writes words over the pages of one holder. Most calls fall on one page that this holder alone has, and are
-/// done at once.
-pub(crate) fn change<F: Frames>(
-    zero: &Arc<Vec<u64>>,
-    held: &mut Vec<Held>,
-    places: &mut Vec<u32>,
-    pool: &mut F,
-    token: &mut F::Token,
-    writes: &[Write],
-) -> Result<(), PageRefusal>
-    requires name { (F.seen token.old).name ≡ F.name pool.old }
-    requires sorted { IsSorted (pages_of held.old.items) }
-    requires held { IsHeld (pages_of held.old.items) (F.seen token.old).frames }
-    requires writes { AreWrites (length (arc_value zero.now).items) writes.now }
-    requires table { IsTable places.old.items (pages_of held.old.items) }
-    requires wide { length (arc_value zero.now).items ≤ 64 * length places.old.items }
-    ensures ok { OnOk result (Wrote writes.now
-        (shown (arc_value zero.now).items held.old.items (F.seen token.old))
-        (shown (arc_value zero.now).items held.new.items (F.seen token.new))) }
-    ensures ok_among { OnOk result ((others : List Holder) → Accounts (F.numbers pool.old) (F.seen token.old ∷ others)
-        → WroteAmong writes.now
-        (shown (arc_value zero.now).items held.old.items (F.seen token.old))
-        (shown (arc_value zero.now).items held.new.items (F.seen token.new)) others) }
-    ensures err { OnErr result (pages_of held.new.items ≡ pages_of held.old.items) }
-    ensures refused { IfErr result (λ refusal. OnRefusal refusal
-        (λ k. IsShort k writes.now
-        (shown (arc_value zero.now).items held.old.items (F.seen token.old))
-        (shown (arc_value zero.now).items held.new.items (F.seen token.new)))
-        (IsUnmade
-        (shown (arc_value zero.now).items held.old.items (F.seen token.old))
-        (shown (arc_value zero.now).items held.new.items (F.seen token.new)))) }
-    ensures refused_among { IfErr result (λ refusal. (others : List Holder)
-        → Accounts (F.numbers pool.old) (F.seen token.old ∷ others)
-        → OnRefusal refusal
-        (λ k. ShortAmong k writes.now (shown (arc_value zero.now).items held.old.items (F.seen token.old)) others)
-        (Unit {0})) }
-    ensures sorted { IsSorted (pages_of held.new.items) }
-    ensures table { IsTable places.new.items (pages_of held.new.items) }
-    ensures len { length places.new.items ≡ length places.old.items }
-    ensures held { IsHeld (pages_of held.new.items) (F.seen token.new).frames }
-    ensures kept { Keeps (F.numbers pool.old) (F.seen token.old ∷ []) (F.numbers pool.new) (F.seen token.new ∷ []) }
-    ensures pool { SamePool (F.name pool.old) (F.numbers pool.old) (F.name pool.new) (F.numbers pool.new) }
-{
-    if write_alone(held, places, pool, token, writes, zero.len()) {
-        return Ok(());
-    }
-    change_pages(zero, held, places, pool, token, writes)
 }

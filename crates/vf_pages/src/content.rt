@@ -1,10 +1,11 @@
 ghost use Rattle.std.specs.Prelude.{◌≡◌, ◌%◌, slice_index, true, IfOk, OnOk, MatchBool};
+ghost use Rattle.vf_base.specs.declared.write.TheConstants.{PAGE_WORDS};
 ghost use Rattle.vf_pages.specs.Pages.{zero_page};
 ghost use Rattle.vf_pages.specs.Writes.{after, AllOn};
 
 use std::alloc::Global;
 use std::sync::Arc;
-use vf_base::{Memory, Write};
+use vf_base::{Memory, PAGE_WORDS, Write};
 
 /// The 64 words of a page. They stand in a cell, which the holders that share the page share. To be
 /// written they are taken out of it, which only the one owner of a cell can do, and put back afterwards:
@@ -152,9 +153,9 @@ pub(crate) fn word_or_zero(words: &[u64], at: usize) -> u64
 
 /// The word of a page at an address.
 pub(crate) fn word_in(words: &[u64; 64], at: u32) -> u64
-    ensures { result ≡ slice_index words.now (at % 64) }
+    ensures { result ≡ slice_index words.now (at % PAGE_WORDS) }
 {
-    words[(at % 64) as usize]
+    words[(at % PAGE_WORDS) as usize]
 }
 
 /// The 64 words of a page at time zero.
@@ -163,7 +164,7 @@ pub(crate) fn zero_words(zero: &[u64], page: u32) -> [u64; 64]
 {
     let mut words = [0; 64];
     for i in 0..64 {
-        words[i] = word_or_zero(zero, 64 * page as usize + i);
+        words[i] = word_or_zero(zero, PAGE_WORDS as usize * page as usize + i);
     }
     words
 }
@@ -174,7 +175,7 @@ pub(crate) fn write_words(words: &mut [u64; 64], page: u32, writes: &[Write])
     ensures { words.new ≡ after writes.now page words.old }
 {
     for write in writes {
-        words[(write.at % 64) as usize] = write.word;
+        words[(write.at % PAGE_WORDS) as usize] = write.word;
     }
 }
 

@@ -1,4 +1,5 @@
 ghost use Rattle.std.specs.Prelude.{◌≡◌, ℕ, ◌/◌, ◌<◌, [], ◌∷◌, true, length, vec_len, OnOk, OnErr, IfErr};
+ghost use Rattle.vf_base.specs.declared.write.TheConstants.{PAGE_WORDS};
 ghost use Rattle.vf_frames.specs.Holders.{Keeps, SamePool};
 ghost use Rattle.vf_frames.specs.Calls.{SameRest, NotesGrow, NoWin};
 ghost use Rattle.vf_pages.specs.Pages.{IsSorted, IsHeld, Owns, Covers, Gives, zero_page};
@@ -11,7 +12,7 @@ use crate::content::{Content, written_words, zero_words};
 use crate::held::{Held, PageNo};
 use crate::places::place_in;
 use crate::search::split_page;
-use vf_base::Write;
+use vf_base::{PAGE_WORDS, Write};
 use vf_frames::Frames;
 
 /// Why what writes need could not be had.
@@ -115,19 +116,19 @@ fn gather_page<F: Frames>(
     requires table { IsTable places.now.items (pages_of held.old.items) }
     requires owns { Owns (pages_of held.old.items) (pages_of fresh.old.items) (F.seen token.old).frames }
     requires some { 0 < length own.now }
-    requires own { AllOn (at / 64) own.now }
+    requires own { AllOn (at / PAGE_WORDS) own.now }
     ensures pages { pages_of held.new.items ≡ pages_of held.old.items }
-    ensures taken { OnOk result (TakesPage (at / 64) held.old.items (pages_of fresh.old.items)
+    ensures taken { OnOk result (TakesPage (at / PAGE_WORDS) held.old.items (pages_of fresh.old.items)
         held.new.items (pages_of fresh.new.items)) }
-    ensures ok { OnOk result (Goes zero.now (pages_of held.old.items) (at / 64) own.now
+    ensures ok { OnOk result (Goes zero.now (pages_of held.old.items) (at / PAGE_WORDS) own.now
         (F.numbers pool.old) (F.seen token.old) (pages_of fresh.old.items)
         (F.numbers pool.new) (F.seen token.new) (pages_of fresh.new.items)) }
-    ensures err { IfErr result (Ends zero.now (pages_of held.old.items) (at / 64) own.now
+    ensures err { IfErr result (Ends zero.now (pages_of held.old.items) (at / PAGE_WORDS) own.now
         (F.numbers pool.old) (F.seen token.old) (pages_of fresh.old.items)
         (F.numbers pool.new) (F.seen token.new) (pages_of fresh.new.items)) }
     ensures pool { SamePool (F.name pool.old) (F.numbers pool.old) (F.name pool.new) (F.numbers pool.new) }
 {
-    let page = at / 64;
+    let page = at / PAGE_WORDS;
     let Some(place) = place_in(places, page) else {
         return add_new(zero, pool, token, page, own, fresh);
     };
@@ -169,7 +170,7 @@ pub(crate) fn gather<F: Frames>(
 {
     let mut rest = writes;
     while let Some(first) = rest.first() {
-        let (own, more) = split_page(first.at / 64, rest);
+        let (own, more) = split_page(first.at / PAGE_WORDS, rest);
         if let Err(lack) = gather_page(zero, held, places, pool, token, first.at, own, fresh) {
             return Err(lack);
         }

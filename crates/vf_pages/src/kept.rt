@@ -10,7 +10,7 @@ ghost use Rattle.vf_pages.specs.Places.{IsTable, AtHand};
 use crate::held::Held;
 use crate::places::kept_place;
 use crate::search::split_page;
-use vf_base::Write;
+use vf_base::{PAGE_WORDS, Write};
 
 // Writes the page at a place, whose words are taken out.
 fn write_page(held: &mut Vec<Held>, place: usize, page: u32, own: &[Write])
@@ -41,7 +41,7 @@ pub(crate) fn write_kept(
 {
     let mut rest = writes;
     while let Some(first) = rest.first() {
-        let page = first.at / 64;
+        let page = first.at / PAGE_WORDS;
         let (own, more) = split_page(page, rest);
         if let Some(place) = kept_place(places, fresh, page) {
             write_page(held, place, page, own);

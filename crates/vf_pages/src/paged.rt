@@ -3,8 +3,9 @@ ghost use Rattle.std.specs.Arc.{arc_value};
 ghost use Rattle.vf_frames.specs.declared.holder.Holder.{Holder};
 ghost use Rattle.vf_frames.specs.Holders.{Accounts, Keeps, SamePool};
 
+use crate::alone::write_alone;
 use crate::base::{are_apart, drop_unchanged, hold_over, share_with_room};
-use crate::change::change;
+use crate::change::change_pages;
 use crate::content::word_in;
 use crate::gather::give_up;
 use crate::held::{Held, PageNo};
@@ -14,7 +15,7 @@ use crate::share::{hold_all, share};
 use std::alloc::Global;
 use std::marker::Model;
 use std::sync::Arc;
-use vf_base::{Memory, Write};
+use vf_base::{Memory, PAGE_WORDS, Write};
 use vf_frames::Frames;
 
 /// The pages of one holder over a pool of frames: what was written since time zero. A page that is not
@@ -36,13 +37,14 @@ impl<F: Frames> Model for Paged<F> {
     ghost Value = { Pages };
 
     ghost use Rattle.std.specs.Prelude.{◌*◌, ◌≤◌, length};
+    ghost use Rattle.vf_base.specs.declared.write.TheConstants.{PAGE_WORDS};
     ghost use Rattle.vf_pages.specs.Views.{pages_of, shown};
     ghost use Rattle.vf_pages.specs.Places.{IsTable};
 
     ghost view = { λ p. shown (arc_value p.zero).items p.held.items (F.seen p.token) };
 
     ghost invariant = { λ p. IsSorted (pages_of p.held.items) × IsHeld (pages_of p.held.items) (F.seen p.token).frames
-        × IsTable p.places.items (pages_of p.held.items) × (length (arc_value p.zero).items ≤ 64 * length p.places.items) };
+        × IsTable p.places.items (pages_of p.held.items) × (length (arc_value p.zero).items ≤ PAGE_WORDS * length p.places.items) };
 }
 
 impl<F: Frames> Paged<F> {
@@ -67,7 +69,7 @@ impl<F: Frames> Paged<F> {
             (λ _. Keeps (F.numbers pool.old) (F.seen from.old ∷ []) (F.numbers pool.new) (F.seen from.new ∷ [])) }
         ensures pool { SamePool (F.name pool.old) (F.numbers pool.old) (F.name pool.new) (F.numbers pool.new) }
     {
-        let places = empty_table(alloc, zero.len() / 64 + 1)?;
+        let places = empty_table(alloc, zero.len() / PAGE_WORDS as usize + 1)?;
         let token = pool.open(from, 1)?;
         Ok(Paged {
             zero,
@@ -82,7 +84,7 @@ impl<F: Frames> Paged<F> {
         requires { at < length self.now.zero }
         ensures { result ≡ word_of self.now at }
     {
-        let Some(place) = place_in(&self.places, at / 64) else {
+        let Some(place) = place_in(&self.places, at / PAGE_WORDS) else {
             return self.zero[at as usize];
         };
         word_in(self.held[place].content.words(), at)
@@ -117,7 +119,17 @@ impl<F: Frames> Paged<F> {
         ensures kept { Keeps (F.numbers pool.old) (self.old.holder ∷ []) (F.numbers pool.new) (self.new.holder ∷ []) }
         ensures pool { SamePool (F.name pool.old) (F.numbers pool.old) (F.name pool.new) (F.numbers pool.new) }
     {
-        change(
+        if write_alone(
+            &mut self.held,
+            &self.places,
+            pool,
+            &mut self.token,
+            writes,
+            self.zero.len(),
+        ) {
+            return Ok(());
+        }
+        change_pages(
             &self.zero,
             &mut self.held,
             &mut self.places,

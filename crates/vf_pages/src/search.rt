@@ -1,18 +1,19 @@
 ghost use Rattle.std.specs.Prelude.{◌≡◌, ◌/◌, ◌<◌, ◌≤◌, take, drop, length, MatchResult};
+ghost use Rattle.vf_base.specs.declared.write.TheConstants.{PAGE_WORDS};
 ghost use Rattle.vf_pages.specs.Pages.{IsSorted, IsPlace, IsGap, entry, page_limit};
 ghost use Rattle.vf_pages.specs.Views.{pages_of};
 ghost use Rattle.vf_pages.specs.Writes.{own, beyond, AreWrites, written_pages};
 ghost use Rattle.vf_pages.specs.Needs.{is_new, new_pages};
 
 use crate::held::Held;
-use vf_base::Write;
+use vf_base::{PAGE_WORDS, Write};
 
 /// The page of an address.
 pub(crate) fn page_of_address(at: u32) -> u32
-    ensures page { result ≡ at / 64 }
+    ensures page { result ≡ at / PAGE_WORDS }
     ensures limit { result < page_limit }
 {
-    at / 64
+    at / PAGE_WORDS
 }
 
 /// Where a page stands, or where it would stand.
@@ -46,7 +47,7 @@ fn own_count(page: u32, writes: &[Write]) -> usize
     ensures beyond { drop result writes.now ≡ beyond page writes.now }
 {
     for i in 0..writes.len() {
-        if writes[i].at / 64 != page {
+        if writes[i].at / PAGE_WORDS != page {
             return i;
         }
     }

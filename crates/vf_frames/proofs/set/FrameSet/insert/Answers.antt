@@ -13,4 +13,4 @@ pub invariant_of-self : goal.invariant_of-self
 invariant_of-self c =
     let set = c.args.self.now in
     let more = frames_in-one_more set.limit c.args.frame set.words.items _ (bit_is-insert set.words.items c.args.frame c.index_mut.result.now (omega arith) c.index_mut.ensures.value) in
-    record { wide = set.wide; counted = omega (arith, set.counted, c.saturating_add.ensures, c.min-self.ensures, more.0, more.1) }
+    record { wide = set.wide; counted = omega (arith, set.counted, c.saturating_add-self.ensures, more.0, more.1) }

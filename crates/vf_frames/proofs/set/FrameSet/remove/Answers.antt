@@ -23,8 +23,18 @@ invariant_of-self c =
       counted = omega (
         arith,
         set.counted,
-        c.saturating_sub-self.ensures,
         frames_in-one_less set.limit c.args.frame set.words.items _ c.requires
             (bit_is-remove set.words.items c.args.frame c.index_mut.result.now (omega (arith, set.wide, below)) c.index_mut.ensures.value),
       );
     }
+
+pub overflow_sub-self : goal.overflow_sub-self
+overflow_sub-self c =
+    let set = c.args.self.now in
+    let below = below-frames_in set.limit set.words.items c.args.frame c.requires in
+    omega (
+      arith,
+      set.counted,
+      frames_in-one_less set.limit c.args.frame set.words.items _ c.requires
+          (bit_is-remove set.words.items c.args.frame c.index_mut.result.now (omega (arith, set.wide, below)) c.index_mut.ensures.value),
+    )

@@ -26,8 +26,8 @@ invariant_of-self-in-Ok g c =
     let next = subst (λ (s : Simulator). IsNext s c.args.turn.now) (sym c.self.view_is) c.requires.next in
     let past = subst (λ (s : Simulator). GoesPast s.setup s.job s.header.turns) (sym c.self.view_is) c.requires.goes_past in
     let wrote = subst (λ ws. Wrote ws c.self.inside.pages c.write_all.new.self) c.deref.ensures.value c.in-Ok.ensures.ok in
-    let text : c.push_all.new.self ≡ c.self.inside.text ++ c.args.turn.now.text =
-    ok_from c.push_all.result (sym c.is_err.ensures.value ∙ c.if-is_err.false) c.push_all.ensures.ok ∙ ap (λ more. c.self.inside.text ++ more) c.bytes.ensures in (
+    let text : c.append.new.text ≡ c.self.inside.text ++ c.args.turn.now.text =
+    ok_from c.append.result (sym c.is_err.ensures.value ∙ c.if-is_err.false) c.append.ensures.ok ∙ ap (λ more. c.self.inside.text ++ more) c.bytes.ensures in (
       record {
         setup = sim.setup;
         job = sim.job;
