@@ -1,4 +1,4 @@
-//! Tests of the public calls of the edges: vf_ports, vf_adapters, vf_report, vf_words, vf_top and vf_program. It
+//! Tests of the public calls of the edges: vf_ports, vf_adapters, vf_report, vf_top and vf_program. It
 //! has no code of its own, so that the crates that it tests are proved once.
 #![tactic(auto)]
 
@@ -18,5 +18,3 @@ mod ports;
 mod program;
 #[cfg(test)]
 mod runs;
-#[cfg(test)]
-mod words;

@@ -10,11 +10,11 @@ use vf_base::{Memory, Text};
 #[derive(Debug, Drop, Error)]
 pub enum WordFault {
     /// The words are not options, each at most once and with its value, and names of files: an
-    /// unknown option, a missing value, an option that stands twice, or help asked for behind the
+    /// unknown option, a missing value, an option that stands twice, or help asked for after the
     /// first word.
     #[error("the words are not options with their values and names of files")]
     Refused,
-    /// The value of this option, which is told with its dashes, is no word of its list, or no
+    /// The value of this option, which is told with its dashes, is not a word of its list, or not a
     /// decimal number in its range. It is the first such option in the order mode, workers, pages,
     /// turns, output, slots, evict, number.
     #[error("the value of an option is out of its range")]
@@ -23,7 +23,7 @@ pub enum WordFault {
     #[error("the files are not a design and a plan")]
     Files,
     /// Mode solo names no test, or another mode names one.
-    #[error("a test is named exactly in mode solo")]
+    #[error("mode solo, and no other, names what it runs")]
     Test,
     /// Memory ran out. It may come at any words.
     #[error("out of memory")]
