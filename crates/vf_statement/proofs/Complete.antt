@@ -1,5 +1,5 @@
 -- What the grammar says is read, whatever follows it but an `else` that would belong to it.
-use Rattle.std.proofs.Common.{◌≡◌, ℕ, zero, suc, ◌+◌, ◌<◌, ◌≤◌, max, Bool, true, false, cond, List, [], ◌∷◌, ◌++◌, length, Option, Some, None, refl, ap, subst, sym, ◌∙◌, append_assoc, codes, arith}
+use Rattle.std.proofs.Common.{◌≡◌, ℕ, zero, suc, ◌+◌, ◌<◌, ◌≤◌, max, Bool, true, false, List, [], ◌∷◌, ◌++◌, length, Option, Some, None, refl, ap, subst, sym, ◌∙◌, append_assoc, codes, arith}
 use Rattle.std.specs.Str.{bytes_eq}
 use Rattle.std.proofs.lemmas.List.{append-nil}
 use Rattle.vf_base.specs.declared.names.Place.{Place}
@@ -21,7 +21,7 @@ use Rattle.vf_tree.specs.declared.statements.CitemForm.TheVariants as choice
 use Rattle.vf_tree.specs.declared.modules.AssignPart.{AssignPart}
 use Rattle.vf_expression.specs.Operators.{unary_of, binary_of}
 use Rattle.vf_expression.specs.Grammar.{Tokens, sign, word, name, system, IsExprs, IsExpr}
-use Rattle.vf_expression.specs.Reading.{Ends, Read, ◌>>=◌, found_or, after, opening_at, argument_at, exprs_at, operand_at, signed_at, opened_at, system_at, chained_at, expr_over, expr_at}
+use Rattle.vf_expression.specs.Reading.{Ends, Read, after, opening_at, argument_at, exprs_at, operand_at, signed_at, opened_at, system_at, chained_at, expr_over, expr_at}
 use Rattle.vf_expression.proofs.CallerLemmas.{some_is, chosen, after_again, after_other, opening_other, ends_at, ends_close, ends_colon, expr_reads, exprs_reads, argument_reads}
 use Rattle.vf_control.specs.Lists.{IsMany, no_more, one_more}
 use Rattle.vf_control.specs.Grammar.{IsTargetWithin, IsTarget, IsDelay, IsEvents, IsTask}
@@ -32,10 +32,10 @@ use Rattle.vf_statement.specs.declared.words.Guard.{Guard}
 use Rattle.vf_statement.specs.declared.simple.ForHead.{ForHead}
 use Rattle.vf_statement.specs.Words.{case_of, guard_of, guarded}
 use Rattle.vf_statement.specs.Grammar.{stmt, citem, Rule, IsCond, enclosed, IsAssignPart, assigned, IsEither, IsCitem, labelled, default, bare_default, IsCitems, no_item, next_item, IsStmtOver, empty, block, named_block, blocking, getc, nonblocking, postponed, lone_if, if_else, choices, while_loop, repeat_loop, forever_loop, for_loop, delayed, on_events, waiting, task_call, IsStmt}
-use Rattle.vf_statement.specs.Reading.{EndsStmt, ReadingsAreStatements, is_word, after_word, after_system, name_at, label_at, made, assign_part_at, getc_from, value_from, blocking_from, late_at, nonblocking_from, assignment_at, call_at, for_head_at, stmts_from, block_from, else_from, if_from, guarded_from, forever_from, for_from, delayed_at, on_from, default_from, labelled_at, citem_at, citems_from, citems_at, case_from, choice_by, stmt_by_word, stmt_by_sign, stmt_by, stmt_over, stmt_at}
+use Rattle.vf_statement.specs.Reading.{EndsStmt, ReadingsAreStatements, is_word, after_word, name_at, label_at, assign_part_at, getc_from, value_from, blocking_from, late_at, nonblocking_from, assignment_at, call_at, for_head_at, stmts_from, block_from, else_from, if_from, guarded_from, forever_from, for_from, delayed_at, on_from, default_from, labelled_at, citem_at, citems_from, citems_at, case_from, choice_by, stmt_by_word, stmt_by_sign, stmt_by, stmt_over, stmt_at}
 use Rattle.vf_statement.proofs.FrontLemmas.{after_word_again, after_word_other, after_system_again, no_word, no_sign, no_system, not_word}
 use Rattle.vf_statement.proofs.Small.{exprs_small, target_small, delay_small, events_small, task_small}
-use Rattle.vf_statement.proofs.Shorter.{either_shorter, citem_shorter, stmt_shorter}
+use Rattle.vf_statement.proofs.Shorter.{citem_shorter, stmt_shorter}
 use Rattle.vf_statement.proofs.Sound.{count, count_true, count_false, stmt_is}
 
 ends_semicolon : (q : Place) (rest : Tokens) → Ends 1 (sign q (codes ";") ∷ rest)

@@ -1,7 +1,7 @@
 -- Reserved words, system names and names at the front of the tokens.
-use Rattle.std.proofs.Common.{◌≡◌, ℕ, Bool, true, false, List, [], ◌∷◌, ◌⊎◌, Option, Some, None, refl, ap, sym, ◌∙◌, inl, inr, codes}
+use Rattle.std.proofs.Common.{◌≡◌, ℕ, true, false, List, [], ◌∷◌, ◌⊎◌, Option, Some, None, refl, ap, sym, ◌∙◌, inl, inr, codes}
 use Rattle.std.specs.Str.{bytes_eq}
-use Rattle.std.proofs.lemmas.Bool.{cases_Bool, false_from_ne_true}
+use Rattle.std.proofs.lemmas.Bool.{false_from_ne_true}
 use Rattle.vf_base.specs.declared.names.Place.{Place}
 use Rattle.vf_lexeme.specs.declared.kinds.TokenKind.{TokenKind}
 use Rattle.vf_lexeme.specs.declared.kinds.TokenKind.TheVariants as token

@@ -1,12 +1,11 @@
 -- What a statement stands on is at least one token.
-use Rattle.std.proofs.Common.{◌≡◌, ℕ, zero, suc, ◌+◌, ◌<◌, ◌≤◌, Bool, false, List, [], ◌∷◌, length, ap, codes, arith}
+use Rattle.std.proofs.Common.{ℕ, zero, suc, ◌<◌, ◌≤◌, Bool, false, List, ◌∷◌, length, ap, codes, arith}
 use Rattle.vf_tree.specs.declared.expressions.TreeExpr.{TreeExpr}
 use Rattle.vf_tree.specs.declared.statements.Stmt.{Stmt}
 use Rattle.vf_tree.specs.declared.statements.Citem.{Citem}
 use Rattle.vf_tree.specs.declared.modules.AssignPart.{AssignPart}
 use Rattle.vf_expression.specs.Grammar.{Tokens, sign, word, system}
 use Rattle.vf_expression.proofs.CallerLemmas.{expr_shorter, exprs_shorten}
-use Rattle.vf_control.specs.Lists.{IsMany}
 use Rattle.vf_control.proofs.CallerLemmas.{target_shorter, delay_shorter, events_shorter, task_shorter, many_shorter}
 use Rattle.vf_statement.specs.Grammar.{Rule, IsCond, enclosed, IsAssignPart, assigned, IsEither, IsCitem, labelled, default, bare_default, IsCitems, no_item, next_item, IsStmtOver, empty, block, named_block, blocking, getc, nonblocking, postponed, lone_if, if_else, choices, while_loop, repeat_loop, forever_loop, for_loop, delayed, on_events, waiting, task_call, IsStmt}
 

@@ -1,5 +1,5 @@
 -- The parts of a statement without a statement in them are not deeper than the expressions in them may be.
-use Rattle.std.proofs.Common.{◌≡◌, ℕ, zero, suc, ◌+◌, ◌≤◌, max, List, [], ◌∷◌, Option, arith, codes}
+use Rattle.std.proofs.Common.{ℕ, zero, suc, ◌≤◌, List, ◌∷◌, Option, arith, codes}
 use Rattle.vf_tree.specs.declared.expressions.TreeExpr.{TreeExpr}
 use Rattle.vf_tree.specs.declared.expressions.Select.{Select}
 use Rattle.vf_tree.specs.declared.statements.Target.{Target}

@@ -1,6 +1,5 @@
 -- What the reading functions read is what the grammar says.
 use Rattle.std.proofs.Common.{◌≡◌, ℕ, zero, suc, ◌+◌, ◌≤◌, max, Bool, true, false, cond, ◌⊎◌, List, [], ◌∷◌, ◌++◌, length, Option, Some, None, refl, ap, subst, sym, ◌∙◌, inl, inr, append_assoc, codes, arith}
-use Rattle.std.specs.Str.{bytes_eq}
 use Rattle.std.proofs.lemmas.Bool.{cases_Bool}
 use Rattle.std.proofs.lemmas.List.{append-nil}
 use Rattle.vf_base.specs.declared.names.Place.{Place}
@@ -20,7 +19,7 @@ use Rattle.vf_tree.specs.declared.statements.CitemForm.TheVariants as choice
 use Rattle.vf_tree.specs.declared.modules.AssignPart.{AssignPart}
 use Rattle.vf_expression.specs.Grammar.{Tokens, sign, word, name, system, IsExprs, IsExpr}
 use Rattle.vf_expression.specs.Reading.{Read, ◌>>=◌, found_or, after, argument_at, exprs_at, expr_at}
-use Rattle.vf_expression.proofs.CallerLemmas.{bind_some, some_is, found_is, chosen, text_is, after_is, expr_read, exprs_read, argument_read}
+use Rattle.vf_expression.proofs.CallerLemmas.{bind_some, some_is, found_is, chosen, after_is, expr_read, exprs_read, argument_read}
 use Rattle.vf_control.specs.Lists.{IsMany, no_more, one_more}
 use Rattle.vf_control.specs.Grammar.{IsTarget, IsDelay}
 use Rattle.vf_control.specs.Reading.{target_at, delay_at, events_at, task_at}

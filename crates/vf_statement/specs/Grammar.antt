@@ -5,7 +5,7 @@
 -- The number n is the depth of a statement: 1 without a statement or an expression in it, else 1 more than the deepest directly in it.
 -- The truth value o tells whether a statement ends in an `if` without `else`. An `else` that came after it would belong to that `if`, so
 -- only a statement that ends in none can stand before an `else`.
-use Rattle.std.specs.Prelude.{◌≡◌, ℕ, zero, suc, ◌+◌, ◌≤◌, max, Bool, true, false, List, [], ◌∷◌, Option, Some, None, codes}
+use Rattle.std.specs.Prelude.{◌≡◌, ℕ, zero, suc, ◌+◌, ◌≤◌, max, Bool, true, false, List, [], ◌∷◌, Some, None, codes}
 use Rattle.vf_base.specs.declared.names.Place.{Place}
 use Rattle.vf_lex.specs.declared.token.Token.{Token}
 use Rattle.vf_tree.specs.declared.expressions.TreeExpr.{TreeExpr}
