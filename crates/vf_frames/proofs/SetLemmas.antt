@@ -1,5 +1,5 @@
 -- The bits of a set of frames.
-use Rattle.std.proofs.Common.{◌≡◌, ◌≢◌, ℕ, zero, suc, ◌+◌, ◌*◌, ◌/◌, ◌%◌, ◌^◌, ◌-◌, ◌<◌, ◌≤◌, max, Bool, true, false, cond, not, ◌&&◌, ◌||◌, ◌==◌, List, [], ◌∷◌, length, get_or, slice_index, slice_set, bit_or, bit_and, refl, sym, ap, ap₂, ◌∙◌, arith, ne_eqb, eq-eqb, ⊎_elim, w64, replicate}
+use Rattle.std.proofs.Common.{◌≡◌, ◌≢◌, ℕ, zero, suc, ◌+◌, ◌*◌, ◌/◌, ◌%◌, ◌^◌, ◌-◌, ◌<◌, ◌≤◌, max, Bool, true, false, cond, not, ◌&&◌, ◌||◌, ◌==◌, List, [], ◌∷◌, ◌++◌, length, get_or, slice_index, slice_set, bit_or, bit_and, refl, sym, ap, ap₂, ◌∙◌, arith, ne_eqb, eq-eqb, ⊎_elim, w64, replicate}
 use Rattle.std.specs.Int.{bit_at}
 use Rattle.std.proofs.lemmas.Bool.{cases_eq, cases_lt, and_right, both_ways}
 use Rattle.std.proofs.lemmas.Bool.Decides.{nat_tests}
@@ -117,6 +117,33 @@ pub frames_in-zeros : (limit n : ℕ) (words : List ℕ) → words ≡ replicate
 unfolding frames_in
 frames_in-zeros limit n words e =
     filter-none (bit_is words) (range_with_len 0 limit) (λ k. bit_is-zero words k (ap (λ ws. get_or ws (k / 64) 0) e ∙ get_or-zeros n (k / 64)))
+
+pub frames_in-no_words : (limit : ℕ) → frames_in limit [] ≡ []
+frames_in-no_words limit = frames_in-zeros limit 0 [] refl
+
+-- words with the same values have the same bits
+pub bit_is-same : (words words' : List ℕ) → ((k : ℕ) → slice_index words' k ≡ slice_index words k) → (g : ℕ) → bit_is words' g ≡ bit_is words g
+bit_is-same words words' same g = ap (λ n. bit_at n (g % 64) == 1) (same (g / 64))
+
+-- there is no bit past the last word
+pub bit_is-past : (words : List ℕ) (f : ℕ) → length words ≤ f / 64 → bit_is words f ≡ false
+bit_is-past words f past = bit_is-zero words f (get_or_past words (f / 64) 0 past)
+
+pub has-past : (limit : ℕ) (words : List ℕ) (f : ℕ) → length words ≤ f / 64 → has f (frames_in limit words) ≡ false
+has-past limit words f past =
+    ⊎_elim (λ below. has-frames_in limit words f below ∙ bit_is-past words f past) (λ above. has-frames_in_above limit words f above) (cases_lt f limit)
+
+-- the word of a frame of the set is there
+pub within-words : (limit : ℕ) (words : List ℕ) (f : ℕ) → has f (frames_in limit words) ≡ true → f / 64 < length words
+within-words limit words f there =
+    ⊎_elim (λ within. within) (λ past. absurd (both_ways _ (has-past limit words f past) there)) (cases_lt (f / 64) (length words))
+
+-- a word without a bit more
+pub index-more : (words : List ℕ) (k : ℕ) → slice_index (words ++ 0 ∷ []) k ≡ slice_index words k
+index-more [] zero = refl
+index-more [] (suc k) = refl
+index-more (w ∷ words) zero = refl
+index-more (w ∷ words) (suc k) = index-more words k
 
 -- a frame of the set is below its limit
 pub below-frames_in : (limit : ℕ) (words : List ℕ) (f : ℕ) → has f (frames_in limit words) ≡ true → f < limit

@@ -1,18 +1,19 @@
-ghost use Rattle.std.specs.Prelude.{◌≡◌, ℕ, ◌+◌, ◌/◌, ◌<◌, ◌≤◌, [], true, length, ◌&&◌, ◌||◌, ◌==◌, not, slice_index, bit_or, IfOk, vec_len};
+ghost use Rattle.std.specs.Prelude.{◌≡◌, ℕ, ◌+◌, ◌/◌, ◌<◌, ◌≤◌, [], true, length, ◌&&◌, ◌||◌, ◌==◌, not, slice_index, bit_or, max, IfOk, vec_len, vec_capacity};
 ghost use Rattle.vf_frames.specs.Numbers.{has};
 ghost use Rattle.vf_frames.specs.FrameSets.{frames_in};
 
 use std::alloc::{AllocError, Global};
 
-/// A set of frames below a limit, one bit for each. It counts its frames, so that uniting it with an
-/// empty set takes no walk over the words.
+/// A set of frames below a limit, one bit for each. There are words up to the greatest frame that it ever
+/// had, and room for all from the start: so a new set takes no walk over the pool. It counts its frames, so
+/// that uniting it with an empty set takes no walk either.
 #[derive(Debug, Drop)]
 pub(crate) struct FrameSet {
     pub(crate) words: Vec<u64>,
     pub(crate) limit: u32,
     // How many frames there are, or more where a frame was put in that was there.
     pub(crate) count: u32,
-    ghost wide: { vec_len words ≡ (limit + 63) / 64 },
+    ghost wide: { (vec_len words ≤ (limit + 63) / 64) × ((limit + 63) / 64 ≤ vec_capacity words) },
     ghost counted: { length (frames_in limit words.items) ≤ count },
 }
 
@@ -22,7 +23,7 @@ impl FrameSet {
         ensures limit { IfOk result (λ set. set.limit ≡ limit) }
     {
         let count = (u64::from(limit) + 63) / 64;
-        let words = vec![in alloc; 0u64; count as usize]?;
+        let words = Vec::with_capacity(alloc, count as usize)?;
         Ok(FrameSet {
             words,
             limit,
@@ -34,7 +35,12 @@ impl FrameSet {
         requires { frame < self.now.limit }
         ensures { result ≡ has frame (frames_in self.now.limit self.now.words.items) }
     {
-        (self.words[(frame / 64) as usize] >> (frame % 64)) & 1 == 1
+        let index = (frame / 64) as usize;
+        if index < self.words.len() {
+            (self.words[index] >> (frame % 64)) & 1 == 1
+        } else {
+            false
+        }
     }
 
     pub(crate) fn insert(&mut self, frame: u32)
@@ -43,7 +49,9 @@ impl FrameSet {
             ≡ ((g == frame) || has g (frames_in self.old.limit self.old.words.items)) }
         ensures limit { self.new.limit ≡ self.old.limit }
     {
+        // It fits 32 bits, and so does the number of frames.
         let _limit = self.limit;
+        lengthen(&mut self.words, (frame / 64) as usize + 1);
         self.count = self.count.saturating_add(1);
         self.words[(frame / 64) as usize] |= 1 << (frame % 64);
     }
@@ -69,18 +77,32 @@ impl FrameSet {
             return;
         }
         self.count = self.count.saturating_add(other.count).min(self.limit);
+        lengthen(&mut self.words, other.words.len());
         or_words(&mut self.words, &other.words);
     }
 }
 
-// Each word takes the bits of its fellow.
-fn or_words(words: &mut Vec<u64>, other: &Vec<u64>)
-    requires { vec_len other.now ≡ vec_len words.old }
-    ensures len { vec_len words.new ≡ vec_len words.old }
-    ensures each { (k : ℕ) → k < vec_len words.old
-        → slice_index words.new.items k ≡ bit_or (slice_index words.old.items k) (slice_index other.now.items k) }
+// Adds words without a bit up to a length, for which there is room.
+fn lengthen(words: &mut Vec<u64>, len: usize)
+    requires { len ≤ vec_capacity words.old }
+    ensures same { (k : ℕ) → slice_index words.new.items k ≡ slice_index words.old.items k }
+    ensures reached { len ≤ vec_len words.new }
+    ensures most { vec_len words.new ≤ max len (vec_len words.old) }
+    ensures capacity { vec_capacity words.new ≡ vec_capacity words.old }
 {
-    for i in 0..words.len() {
+    while words.len() < len {
+        words.push_reserved(0);
+    }
+}
+
+// Each word takes the bits of its fellow, as far as there are any.
+fn or_words(words: &mut Vec<u64>, other: &Vec<u64>)
+    requires { vec_len other.now ≤ vec_len words.old }
+    ensures len { vec_len words.new ≡ vec_len words.old }
+    ensures capacity { vec_capacity words.new ≡ vec_capacity words.old }
+    ensures each { (k : ℕ) → slice_index words.new.items k ≡ bit_or (slice_index words.old.items k) (slice_index other.now.items k) }
+{
+    for i in 0..other.len() {
         words[i] |= other[i];
     }
 }

@@ -87,13 +87,12 @@ impl Tally {
         ensures len { length self.new ≡ length self.old }
     {
         let place = frame as usize;
-        match self.numbers[place] {
-            0 => {}
-            1 => {
-                self.free.push_reserved(frame);
-                self.numbers[place] = 0;
-            }
-            number => self.numbers[place] = number - 1,
+        let number = self.numbers[place];
+        if number == 1 {
+            self.free.push_reserved(frame);
+            self.numbers[place] = 0;
+        } else {
+            self.numbers[place] = number.saturating_sub(1);
         }
     }
 }
