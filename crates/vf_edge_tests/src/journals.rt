@@ -1,5 +1,7 @@
 //! The text of a journal.
 
+use std::alloc::Global;
+use std::process::Abort;
 use std::test::Fail;
 use vf_base::{Job, NodeNo};
 use vf_journal::Entry;
@@ -18,16 +20,16 @@ const B: NodeNo = NodeNo(2);
 
 const C: NodeNo = NodeNo(3);
 
-fn says(rt: HostRuntime, journal: &[Entry], text: &str) -> Result<(), Fail> {
-    let plan = read_plan(rt.alloc(), PLAN.as_bytes())?;
-    let written = journal_text(rt.alloc(), &plan, journal)?;
+fn says(rt: &impl Abort, alloc: Global, journal: &[Entry], text: &str) -> Result<(), Fail> {
+    let plan = read_plan(alloc, PLAN.as_bytes())?;
+    let written = journal_text(alloc, &plan, journal)?;
     assert_eq!(rt; written.as_slice(), text.as_bytes());
     Ok(())
 }
 
 #[test]
 fn a_farm_that_has_done_nothing_has_a_line(rt: HostRuntime) -> Result<(), Fail> {
-    says(rt, &[], "journal 0\n")
+    says(&rt, rt.alloc(), &[], "journal 0\n")
 }
 
 // The worked farm of docs/FARM.md, "The journal".
@@ -49,7 +51,8 @@ fn a_worked_farm_is_told(rt: HostRuntime) -> Result<(), Fail> {
         Entry::Evict(R),
     ];
     says(
-        rt,
+        &rt,
+        rt.alloc(),
         &journal,
         "journal 5\nstart reach r from -\nsave r at 26 pages 1\nstart finish a from r\nend finish a at 41\nevict r\n",
     )
@@ -84,7 +87,8 @@ fn each_entry_has_its_words(rt: HostRuntime) -> Result<(), Fail> {
         Entry::Rest,
     ];
     says(
-        rt,
+        &rt,
+        rt.alloc(),
         &journal,
         "journal 8\nsave b.2 at 4294967296 pages 4294967295 base r\npass r at 0\npages finish c-c at 7 needs 10\n\
 copy reach b.2 from a\nlost reach r at 18446744073709551615\nshort finish b.2 at 9\nretire c-c\nrest\n",
