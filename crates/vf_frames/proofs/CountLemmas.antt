@@ -1,9 +1,9 @@
 -- How the counts of frames change with the holders.
-use Rattle.std.proofs.Common.{◌≡◌, ◌≢◌, ℕ, ◌+◌, ◌-◌, ◌^◌, ◌<◌, ◌≤◌, Bool, true, false, cond, not, ◌&&◌, ◌||◌, ◌==◌, List, [], ◌∷◌, ◌++◌, length, slice_index, slice_set, get_or, refl, sym, ap, ◌∙◌, arith, ne_eqb, eq-eqb, eqb-true, ⊎_elim, replicate}
+use Rattle.std.proofs.Common.{◌≡◌, ◌≢◌, ℕ, ◌+◌, ◌-◌, ◌^◌, ◌<◌, ◌≤◌, Bool, true, false, cond, not, ◌&&◌, ◌||◌, ◌==◌, List, [], ◌∷◌, length, slice_index, slice_set, refl, ap, ◌∙◌, arith, ne_eqb, eq-eqb, ⊎_elim}
 use Rattle.std.proofs.lemmas.Bool.{cases_eq, cond_both, or_left, and_left, not_from_true}
 use Rattle.std.proofs.lemmas.List.{get_or-set_other, get_or-set_same, length-set}
 use Rattle.vf_frames.specs.declared.holder.Holder.{Holder}
-use Rattle.vf_frames.specs.Numbers.{has, Gains, Loses, Unites}
+use Rattle.vf_frames.specs.Numbers.{has, Gains, Loses}
 use Rattle.vf_frames.specs.Holders.{total, count, one_if_has, parts_of, EachHasPart, Counts}
 
 one_if-le : (f : ℕ) (h : Holder) → one_if_has f h ≤ 1

@@ -1,9 +1,9 @@
 -- Lists of holders that a pool accounts for, in another order and among others.
-use Rattle.std.proofs.Common.{◌≡◌, ℕ, ◌+◌, ◌<◌, ◌≤◌, List, [], ◌∷◌, ◌++◌, length, slice_index, refl, sym, ap, ◌∙◌, arith, subst, append_assoc}
+use Rattle.std.proofs.Common.{◌≡◌, ℕ, ◌+◌, List, [], ◌∷◌, ◌++◌, refl, sym, ◌∙◌, arith}
 use Rattle.std.specs.Prelude.{Option, Some, None}
 use Rattle.vf_frames.specs.declared.holder.Name.{Name}
 use Rattle.vf_frames.specs.declared.holder.Holder.{Holder}
-use Rattle.vf_frames.specs.Holders.{total, count, one_if_has, parts_of, EachHasPart, Counts, Accounts, Keeps, SamePool}
+use Rattle.vf_frames.specs.Holders.{total, one_if_has, parts_of, EachHasPart, Counts, Accounts, Keeps, SamePool}
 
 -- the holders of one list are those of another
 pub record Reordered (xs ys : List Holder) : Type 0 where

@@ -3,7 +3,7 @@ use Rattle.std.specs.Prelude.{◌≡◌, ℕ, ◌+◌, ◌-◌, ◌^◌, ◌<◌
 use Rattle.std.specs.List.{Any}
 use Rattle.vf_frames.specs.declared.holder.Note.{Note}
 use Rattle.vf_frames.specs.declared.holder.Holder.{Holder}
-use Rattle.vf_frames.specs.Numbers.{has, Gains, Loses, Unites}
+use Rattle.vf_frames.specs.Numbers.{Gains, Loses, Unites}
 
 -- a count of 64 bits, which stands still at its end
 abbrev pub capped : ℕ → ℕ

@@ -1,4 +1,4 @@
-use Rattle.std.proofs.Common.{◌≡◌, ◌∙◌, ap, slice_index, arith}
+use Rattle.std.proofs.Common.{◌∙◌, ap, slice_index, arith}
 use Rattle.vf_frames.proofs.SetLemmas.{index-more}
 use Rattle.vf_frames.proofs.set.lengthen.Goals as goal
 

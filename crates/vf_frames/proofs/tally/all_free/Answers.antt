@@ -1,4 +1,4 @@
-use Rattle.std.proofs.Common.{◌+◌, ◌-◌, not, ◌==◌, ◌∙◌, sym, ap, arith, ⊎_elim, eqb-true}
+use Rattle.std.proofs.Common.{◌-◌, not, ◌==◌, ◌∙◌, sym, ap, arith, ⊎_elim, eqb-true}
 use Rattle.std.proofs.lemmas.Bool.{and_from, or_cases, not_from_false, false_from_ne_true}
 use Rattle.vf_frames.specs.Numbers.{has, apart}
 use Rattle.vf_frames.proofs.ListLemmas.{has-snoc, apart-snoc}

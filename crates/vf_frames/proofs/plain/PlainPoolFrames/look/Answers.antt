@@ -1,4 +1,4 @@
-use Rattle.std.proofs.Common.{◌≡◌, ℕ, slice_index, sym, ap, ◌∙◌, arith, eqb-true, eq-eqb}
+use Rattle.std.proofs.Common.{slice_index, sym, ap, ◌∙◌, arith, eqb-true, eq-eqb}
 use Rattle.vf_frames.specs.declared.holder.Name.{Name}
 use Rattle.vf_frames.proofs.SetLemmas.{below-frames_in}
 use Rattle.vf_frames.proofs.plain.PlainPoolFrames.look.Goals as goal

@@ -1,4 +1,4 @@
-use Rattle.std.proofs.Common.{◌/◌, sym, ◌∙◌, arith}
+use Rattle.std.proofs.Common.{sym, ◌∙◌, arith}
 use Rattle.vf_frames.proofs.SetLemmas.{bit_is-test, has-frames_in, has-past}
 use Rattle.vf_frames.proofs.set.FrameSet.contains.Goals as goal
 

@@ -1,6 +1,5 @@
-use Rattle.std.proofs.Common.{◌≡◌, ◌∙◌, ◌||◌, ◌==◌, ap, ℕ, arith}
+use Rattle.std.proofs.Common.{◌∙◌, ◌||◌, ◌==◌, ap, arith}
 use Rattle.vf_frames.proofs.SetLemmas.{bit_is-insert, bit_is-same, frames_in-gain, frames_in-one_more}
-use Rattle.vf_frames.specs.FrameSets.{bit_is}
 use Rattle.vf_frames.proofs.set.FrameSet.insert.Goals as goal
 
 pub returns-clause-each : goal.returns-clause-each

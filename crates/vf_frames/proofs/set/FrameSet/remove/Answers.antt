@@ -1,4 +1,4 @@
-use Rattle.std.proofs.Common.{◌/◌, ◌<◌, arith}
+use Rattle.std.proofs.Common.{arith}
 use Rattle.vf_frames.proofs.SetLemmas.{bit_is-remove, frames_in-lose, within-words, frames_in-one_less}
 use Rattle.vf_frames.proofs.set.FrameSet.remove.Goals as goal
 

@@ -1,4 +1,4 @@
-use Rattle.std.proofs.Common.{◌≡◌, ◌/◌, ◌∙◌, ap, ℕ, slice_index, bit_or, arith}
+use Rattle.std.proofs.Common.{◌/◌, ◌∙◌, ap, slice_index, bit_or, arith}
 use Rattle.vf_frames.proofs.SetLemmas.{bit_is-or, frames_in-unite, frames_in-both}
 use Rattle.vf_frames.proofs.set.FrameSet.unite.Goals as goal
 

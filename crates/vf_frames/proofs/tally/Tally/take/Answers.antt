@@ -1,4 +1,4 @@
-use Rattle.std.proofs.Common.{refl, ap, sym, ◌∙◌, length, slice_index, arith, ◌≤◌}
+use Rattle.std.proofs.Common.{refl, ap, sym, ◌∙◌, length, slice_index, arith}
 use Rattle.vf_frames.proofs.StackLemmas.{stack-top, stack-pop}
 use Rattle.vf_frames.proofs.tally.Tally.take.Goals as goal
 
