@@ -1,0 +1,10 @@
+pub mod HolderLemmas
+pub mod ImageLemmas
+pub mod EntryRuns
+pub mod Entries
+pub mod CallLemmas
+pub mod StartLemmas
+pub mod SaveLemmas
+pub mod ForkLemmas
+pub mod ReleaseLemmas
+pub mod PutLemmas
