@@ -1,15 +1,13 @@
 -- What the calls of a book have in common: from the book's value to what it is made of, and back.
-use Rattle.std.proofs.Common.{◌≡◌, ◌≢◌, ℕ, zero, suc, ◌<◌, ◌≤◌, ◌==◌, Bool, true, false, not, if◌then◌else◌, List, [], ◌∷◌, length, get_or, Option, Some, None, is_some, option_map, replicate, refl, sym, ap, ap₂, ◌∙◌, arith, subst, inl, inr, ◌⊎◌}
+use Rattle.std.proofs.Common.{◌≡◌, ℕ, zero, suc, ◌<◌, ◌≤◌, ◌==◌, Bool, true, false, not, if◌then◌else◌, List, [], ◌∷◌, length, Option, Some, None, is_some, replicate, refl, sym, ap, ◌∙◌, arith, subst, inl, inr, ◌⊎◌}
 use Rattle.std.specs.Prelude.{slice_set}
-use Rattle.std.specs.List.{find, filter}
-use Rattle.std.proofs.lemmas.Bool.{cases_eq, cases_lt, eqb-true, eqb-false}
-use Rattle.std.proofs.lemmas.List.{get_or-set_same, get_or-set_other, get_or_past, length-set}
+use Rattle.std.specs.List.{find}
+use Rattle.std.proofs.lemmas.Bool.{cases_lt, eqb-true, eqb-false}
+use Rattle.std.proofs.lemmas.List.{get_or-set_other, get_or_past, length-set}
 use Rattle.vf_base.specs.declared.names.Job.{Job}
-use Rattle.vf_base.specs.declared.names.Job.TheVariants.{Reach, Finish}
 use Rattle.vf_base.specs.declared.names.NodeNo.{NodeNo}
 use Rattle.vf_base.specs.declared.run.Ending.{Ending}
 use Rattle.vf_base.specs.declared.run.Header.{Header}
-use Rattle.vf_base.specs.declared.run.Outcome.{Outcome}
 use Rattle.vf_base.specs.declared.run.Outcome.TheVariants.{Done}
 use Rattle.vf_frames.specs.declared.holder.Name.{Name}
 use Rattle.vf_frames.specs.declared.holder.Holder.{Holder}
@@ -17,16 +15,16 @@ use Rattle.vf_frames.specs.Holders.{Keeps}
 use Rattle.vf_jobs.specs.Jobs.{node_of, node_no}
 use Rattle.vf_jobs.specs.Setup.{Conditions}
 use Rattle.vf_journal.specs.declared.entry.Entry.{Entry}
-use Rattle.vf_journal.specs.declared.entry.Entry.TheVariants.{Pass, End, Pages, Lost, Evict, Saved, Start}
+use Rattle.vf_journal.specs.declared.entry.Entry.TheVariants.{Pass, End, Pages, Lost, Evict}
 use Rattle.vf_journal.specs.Records.{Held, Records, at_first, image_of}
 use Rattle.vf_journal.specs.Effects.{IsAlone}
 use Rattle.vf_journal.specs.Journal.{replay}
-use Rattle.vf_records.specs.Account.{Account, farm_of, solo_of, records_in, records_after, with_entry, IsLawful}
+use Rattle.vf_records.specs.Account.{Account, solo_of, records_in, IsLawful}
 use Rattle.vf_image.specs.Images.{Checkpoint}
 use Rattle.vf_image.specs.Runs.{touched_in}
 use Rattle.vf_image.specs.Simulators.{Simulator, IsSimulator}
 use Rattle.vf_image.specs.Standing.{IsPassing, IsEnding, IsOver}
-use Rattle.vf_book.specs.Book.{BookView, image_at, holders, Fits, FitsAt, IsBook, IsOf, AreOf, Serves, HandKept, Appends}
+use Rattle.vf_book.specs.Book.{BookView, image_at, holders, Fits, IsBook, AreOf, Serves, Appends}
 use Rattle.vf_book.specs.Attempts.{IsOpen, IsWithin}
 use Rattle.vf_book.proofs.HolderLemmas.{none-left}
 use Rattle.vf_book.proofs.ImageLemmas.{find_filtered}

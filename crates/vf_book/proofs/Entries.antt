@@ -1,34 +1,26 @@
 -- Which entries a lawful journal may have next, from where a simulator stands.
-use Rattle.std.proofs.Common.{◌≡◌, ◌≢◌, ℕ, ◌+◌, ◌<◌, ◌≤◌, ◌==◌, ◌||◌, ◌&&◌, Bool, true, false, List, [], Option, Some, None, is_some, option_map, refl, sym, ◌∙◌, ap, ap₂, subst, arith}
+use Rattle.std.proofs.Common.{◌≡◌, ◌≢◌, ℕ, ◌≤◌, ◌&&◌, true, false, [], Option, Some, None, is_some, option_map, refl, sym, ◌∙◌, ap, ap₂, subst}
 use Rattle.std.proofs.lemmas.Bool.{false≢true, or_left, or_right, and_parts}
 use Rattle.vf_base.specs.declared.names.Job.{Job}
-use Rattle.vf_base.specs.declared.names.Job.TheVariants.{Reach, Finish}
+use Rattle.vf_base.specs.declared.names.Job.TheVariants.{Reach}
 use Rattle.vf_base.specs.declared.names.NodeNo.{NodeNo}
 use Rattle.vf_base.specs.declared.run.Ending.{Ending}
-use Rattle.vf_base.specs.declared.run.Header.{Header}
-use Rattle.vf_base.specs.declared.run.Outcome.{Outcome}
 use Rattle.vf_base.specs.declared.run.Outcome.TheVariants as outcomes
 use Rattle.vf_base.specs.declared.run.SaveKind.{SaveKind}
-use Rattle.vf_base.specs.declared.run.SaveKind.TheVariants.{Full, Incr}
-use Rattle.vf_machine.specs.Search.{count_below}
-use Rattle.vf_machine.specs.Pages.{page_count}
-use Rattle.vf_machine.proofs.CallerLemmas.{count_below-ext}
-use Rattle.vf_design.specs.Words.{machine_of}
 use Rattle.vf_jobs.specs.Jobs as jobs
 use Rattle.vf_jobs.specs.Jobs.{node_of, fits}
-use Rattle.vf_jobs.specs.Kinds as solo
-use Rattle.vf_jobs.specs.Setup.{Conditions, words_at_start}
+use Rattle.vf_jobs.specs.Setup.{Conditions}
 use Rattle.vf_jobs.specs.Subtree.{is_below}
-use Rattle.vf_journal.specs.declared.entry.Entry.TheVariants.{Start, Saved, Pass, End, Pages, Lost, Evict}
-use Rattle.vf_journal.specs.Farm.{Farm, Point, limits, point_in, own_pages, has_page}
+use Rattle.vf_journal.specs.declared.entry.Entry.TheVariants.{Saved, Pass, End, Pages, Lost, Evict}
+use Rattle.vf_journal.specs.Farm.{limits, point_in, own_pages}
 use Rattle.vf_journal.specs.Records.{Held, Attempt, Stage, idle, running, deferred, over, Records, is_job, is_known, is_idle, is_running, is_ready, image_of, is_pinned}
 use Rattle.vf_journal.specs.Effects.{IsRunning, IsAlone, origin_of}
 use Rattle.vf_journal.specs.Journal.{IsGivenUp, SavesSolo, EndsSolo, PassesSolo, held_point, base_for, next_evicted, kind_of}
 use Rattle.vf_journal.specs.Holding.{IsHeld, AreHeld}
-use Rattle.vf_journal.proofs.CallerLemmas.{IsServed, origin_serves, base_serves, evicted_is, turns_within}
+use Rattle.vf_journal.proofs.CallerLemmas.{origin_serves, base_serves, evicted_is, turns_within}
 use Rattle.vf_records.specs.Account.{Account, farm_of, solo_of, records_in, IsAccount, IsLawful}
-use Rattle.vf_image.specs.Runs.{stimulus_of, limits_for, moment_in, touched_in, touches, IsSavedAt}
-use Rattle.vf_image.specs.Images.{Checkpoint, IsImage, IsOwnCount, Serves, is_own, own_over}
+use Rattle.vf_image.specs.Runs.{limits_for, moment_in, touched_in, IsSavedAt}
+use Rattle.vf_image.specs.Images.{Checkpoint, IsImage, IsOwnCount, Serves, own_over}
 use Rattle.vf_image.specs.Simulators.{Simulator, IsSimulator}
 use Rattle.vf_image.specs.Standing.{IsAtSave, IsPassing, IsEnding, IsOver}
 use Rattle.vf_book.specs.Attempts.{IsOpen, IsWithin}

@@ -1,35 +1,31 @@
 -- A simulator is at a point of its job's solo run as the journal sees it, and what is decided there.
-use Rattle.std.proofs.Common.{◌≡◌, ℕ, zero, suc, ◌+◌, ◌<◌, ◌≤◌, ◌==◌, ◌&&◌, ◌||◌, Bool, true, false, List, Option, Some, None, is_some, option_map, length, refl, sym, ◌∙◌, ap, ap₂, subst, arith}
+use Rattle.std.proofs.Common.{◌≡◌, ℕ, zero, suc, ◌+◌, Bool, true, false, Some, None, is_some, refl, sym, ◌∙◌, ap, ap₂, subst, arith}
 use Rattle.std.proofs.lemmas.Bool.{false≢true, or_from}
 use Rattle.vf_base.specs.declared.names.Job.{Job}
 use Rattle.vf_base.specs.declared.names.Job.TheVariants.{Reach, Finish}
 use Rattle.vf_base.specs.declared.names.NodeNo.{NodeNo}
 use Rattle.vf_base.specs.declared.run.Ending.{Ending}
 use Rattle.vf_base.specs.declared.run.Header.{Header}
-use Rattle.vf_base.specs.declared.run.Outcome.{Outcome}
 use Rattle.vf_base.specs.declared.run.Outcome.TheVariants as outcomes
 use Rattle.vf_base.specs.declared.run.SaveKind.{SaveKind}
-use Rattle.vf_machine.specs.declared.mark.Mark.{Mark}
-use Rattle.vf_machine.specs.declared.mark.Mark.TheVariants.{Ended}
-use Rattle.vf_machine.specs.Machine.{Machine, Move, go, stop, stops}
-use Rattle.vf_machine.specs.Run.{Moment, Turned, mark_at, text_at, turn_at, sight_at, is_ending}
-use Rattle.vf_machine.specs.Solo.{ending_of, turns_before_end, passing_turn}
+use Rattle.vf_machine.specs.Machine.{Move, go, stop, stops}
+use Rattle.vf_machine.specs.Run.{mark_at, turn_at, sight_at, is_ending}
+use Rattle.vf_machine.specs.Solo.{ending_of, turns_before_end}
 use Rattle.vf_machine.proofs.CallerLemmas.{IsFirst, Finds, first_finds}
-use Rattle.vf_design.specs.State.{State}
 use Rattle.vf_design.specs.Words.{machine_of}
 use Rattle.vf_design.proofs.CallerLemmas.{reads_on}
-use Rattle.vf_jobs.specs.Kinds.{Kind, saved, passed, ended, over, save_at, is_passed, savepoint_of_node, outcome_of}
+use Rattle.vf_jobs.specs.Kinds.{saved, passed, ended, over, save_at, is_passed}
 use Rattle.vf_jobs.specs.Setup.{Conditions}
 use Rattle.vf_journal.specs.Farm.{Farm, Point, stimulus, limits, point_in, is_at_save, is_at_pass, is_decided}
 use Rattle.vf_journal.specs.Farm as farm
-use Rattle.vf_journal.specs.Journal.{of_solo, kind_of, pages_in, ReachesKind, EndsSolo, PassesSolo}
+use Rattle.vf_journal.specs.Journal.{kind_of, ReachesKind, EndsSolo, PassesSolo}
 use Rattle.vf_journal.specs.Laws.{goes_on, ReadGoesOn}
 use Rattle.vf_journal.proofs.CallerLemmas.{IsRunAt, SavesAt, endings_stand, ends_still, ends_at, saves, kind_saved, kind_passed, kind_over, kind_ended, outcome_ended, outcome_passed}
 use Rattle.vf_records.specs.Account.{farm_of, solo_of}
 use Rattle.vf_image.specs.Runs.{stimulus_of, limits_for, moment_in, turn_in, touched_in, IsSavedAt, GoesPast}
 use Rattle.vf_image.specs.Runs as runs
 use Rattle.vf_image.specs.Simulators.{Simulator, IsSimulator}
-use Rattle.vf_image.specs.Standing.{IsAtSave, IsPassing, IsEnding, Needs, IsOver}
+use Rattle.vf_image.specs.Standing.{IsAtSave, IsPassing, IsEnding, IsOver}
 use Rattle.vf_book.specs.Attempts.{IsWithin}
 
 -- the checkpoint that the last turn asked for

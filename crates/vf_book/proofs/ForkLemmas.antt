@@ -1,5 +1,5 @@
 -- A simulator that goes on from an image of a book.
-use Rattle.std.proofs.Common.{◌≡◌, ◌≢◌, ℕ, ◌+◌, ◌<◌, ◌≤◌, true, false, List, [], ◌∷◌, ◌++◌, length, Option, Some, None, option_map, is_some, Result, Ok, Err, refl, sym, ap, ◌∙◌, arith, subst, IfOk}
+use Rattle.std.proofs.Common.{◌≡◌, ℕ, ◌<◌, true, List, [], ◌∷◌, ◌++◌, length, Option, Some, None, option_map, is_some, Result, Ok, Err, sym, ap, ◌∙◌, subst, IfOk}
 use Rattle.std.specs.Prelude.{IfSome, MatchResult}
 use Rattle.vf_base.specs.declared.names.Job.{Job}
 use Rattle.vf_base.specs.declared.names.NodeNo.{NodeNo}
@@ -8,12 +8,10 @@ use Rattle.vf_frames.specs.declared.holder.Holder.{Holder}
 use Rattle.vf_frames.specs.Calls.{Opened}
 use Rattle.vf_frames.specs.Holders.{Keeps}
 use Rattle.vf_pages.specs.Pages.{Pages}
-use Rattle.vf_pages.specs.Calls.{Forked, ForkedOver}
-use Rattle.vf_image.specs.Images.{Checkpoint, Serves, IsBaseOf, HasBase, ForkedFrom, base_holders}
-use Rattle.vf_image.specs.Simulators.{Simulator}
-use Rattle.vf_book.specs.Book.{image_at, holders, IsOf, AreOf, HandLent}
-use Rattle.vf_book.specs.Forks.{base_in, HasBaseIn, IsSource, StandsAt}
-use Rattle.vf_book.proofs.HolderLemmas.{keeps-begun, keeps-refused, keeps-forked, keeps-forked-over}
+use Rattle.vf_image.specs.Images.{Checkpoint, HasBase, ForkedFrom, base_holders}
+use Rattle.vf_book.specs.Book.{image_at, holders, AreOf, HandLent}
+use Rattle.vf_book.specs.Forks.{base_in, HasBaseIn, IsSource}
+use Rattle.vf_book.proofs.HolderLemmas.{keeps-forked, keeps-forked-over}
 
 module _ (images : List (Option Checkpoint)) (i : Checkpoint) where
   pub base_there : (base : Option NodeNo) → HasBaseIn images i base → IfSome base (λ b. (b.0 < length images) × (is_some (image_at images b.0) ≡ true))

@@ -1,13 +1,12 @@
 -- The holders of images, one of which is given back or put into its place.
-use Rattle.std.proofs.Common.{◌≡◌, ◌≢◌, ℕ, zero, suc, ◌+◌, ◌<◌, ◌≤◌, List, [], ◌∷◌, ◌++◌, length, get_or, Option, Some, None, refl, sym, ap, ◌∙◌, arith, subst, inl, inr, ◌⊎◌}
+use Rattle.std.proofs.Common.{◌≡◌, ◌≢◌, ℕ, zero, suc, ◌<◌, List, [], ◌∷◌, ◌++◌, length, Option, Some, None, refl, sym, ap, ◌∙◌, arith, subst, inl, inr, ◌⊎◌}
 use Rattle.std.specs.Prelude.{slice_set, replicate}
 use Rattle.std.proofs.lemmas.Bool.{cases_eq}
 use Rattle.std.proofs.lemmas.List.{get_or-set_same, get_or-set_other}
 use Rattle.vf_frames.specs.declared.holder.Name.{Name}
 use Rattle.vf_frames.specs.declared.holder.Holder.{Holder}
-use Rattle.vf_frames.specs.Calls.{capped, NotesGrow}
-use Rattle.vf_frames.specs.Holders.{Accounts, Keeps, SamePool}
-use Rattle.vf_frames.proofs.CallerLemmas.{Reordered, reordered-same, reordered-then, reordered-before, reordered-sides, reordered-front, reordered-middle, accounts-reordered, keeps-reordered, keeps-among, notes-none, notes-then, pool-then}
+use Rattle.vf_frames.specs.Holders.{Keeps, SamePool}
+use Rattle.vf_frames.proofs.CallerLemmas.{Reordered, reordered-same, reordered-then, reordered-before, reordered-sides, accounts-reordered, notes-none, notes-then}
 use Rattle.vf_pages.specs.Pages.{Pages}
 use Rattle.vf_pages.specs.Calls.{GivenBack}
 use Rattle.vf_image.specs.Images.{Checkpoint}

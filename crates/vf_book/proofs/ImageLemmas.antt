@@ -1,6 +1,6 @@
 -- The images of a book beside those that its records hold.
-use Rattle.std.proofs.Common.{◌≡◌, ◌≢◌, ℕ, zero, suc, ◌+◌, ◌<◌, ◌≤◌, ◌==◌, Bool, true, false, not, List, [], ◌∷◌, ◌++◌, if◌then◌else◌, length, get_or, Option, Some, None, is_some, refl, sym, ap, ◌∙◌, arith, subst, inl, inr, ◌⊎◌}
-use Rattle.std.specs.Prelude.{slice_set, replicate}
+use Rattle.std.proofs.Common.{◌≡◌, ◌≢◌, ℕ, ◌+◌, ◌<◌, ◌≤◌, ◌==◌, Bool, true, false, List, [], ◌∷◌, if◌then◌else◌, length, Option, Some, None, is_some, refl, sym, ap, ◌∙◌, arith, subst, inl, inr, ◌⊎◌}
+use Rattle.std.specs.Prelude.{slice_set}
 use Rattle.std.specs.List.{find, filter}
 use Rattle.std.proofs.lemmas.Bool.{eqb-true, cases_eq, cases_lt}
 use Rattle.std.proofs.lemmas.List.{get_or-set_same, get_or-set_other, get_or_past, length-set}
@@ -10,13 +10,13 @@ use Rattle.vf_base.specs.declared.names.NodeNo.{NodeNo}
 use Rattle.vf_jobs.specs.Jobs.{node_no}
 use Rattle.vf_jobs.specs.Setup.{Conditions}
 use Rattle.vf_journal.specs.declared.entry.Entry.{Entry}
-use Rattle.vf_journal.specs.declared.entry.Entry.TheVariants.{Pass, End, Pages, Lost, Evict, Saved, Start}
+use Rattle.vf_journal.specs.declared.entry.Entry.TheVariants.{Pass, End, Pages, Lost}
 use Rattle.vf_journal.specs.Farm.{Farm}
 use Rattle.vf_journal.specs.Records.{Held, Records, image_of}
-use Rattle.vf_journal.specs.Effects.{Seen, after, is_needed, with_its_copies, without_image}
-use Rattle.vf_records.specs.Account.{Account, farm_of, solo_of, records_in, records_after, with_entry}
+use Rattle.vf_journal.specs.Effects.{Seen, after, is_needed, with_its_copies}
+use Rattle.vf_records.specs.Account.{Account, farm_of, solo_of, records_in, records_after}
 use Rattle.vf_image.specs.Images.{Checkpoint}
-use Rattle.vf_book.specs.Book.{BookView, image_at, IsHeldAs, Fits, Covered, FitsAt, CoveredAt, IsBook, Covers, Appends}
+use Rattle.vf_book.specs.Book.{image_at, Fits, Covered, FitsAt, CoveredAt, IsBook, Covers, Appends}
 
 -- ---- images that a test of their nodes keeps
 

@@ -1,5 +1,5 @@
 -- A simulator at its save point that is kept as the image of its node.
-use Rattle.std.proofs.Common.{◌≡◌, ℕ, ◌<◌, true, List, length, Option, Some, None, option_map, refl, sym, ap, ◌∙◌, arith, subst}
+use Rattle.std.proofs.Common.{◌≡◌, ℕ, ◌<◌, true, List, length, Option, Some, None, option_map, sym, ap, ◌∙◌, arith, subst}
 use Rattle.std.specs.Prelude.{slice_set}
 use Rattle.vf_base.specs.declared.names.Job.{Job}
 use Rattle.vf_base.specs.declared.names.Job.TheVariants.{Reach}
@@ -9,9 +9,9 @@ use Rattle.vf_base.specs.declared.run.SaveKind.{SaveKind}
 use Rattle.vf_jobs.specs.Jobs.{node_of, node_no}
 use Rattle.vf_jobs.specs.Setup.{Conditions}
 use Rattle.vf_journal.specs.declared.entry.Entry.TheVariants.{Saved}
-use Rattle.vf_journal.specs.Records.{Held, Records, image_of, is_job}
+use Rattle.vf_journal.specs.Records.{Held, image_of, is_job}
 use Rattle.vf_journal.specs.Journal.{base_for}
-use Rattle.vf_records.specs.Account.{Account, IsAccount, IsLawful, farm_of, solo_of, records_in}
+use Rattle.vf_records.specs.Account.{Account, IsAccount, IsLawful, solo_of, records_in}
 use Rattle.vf_image.specs.Images.{Checkpoint, IsOwnCount}
 use Rattle.vf_image.specs.Simulators.{Simulator, IsSimulator}
 use Rattle.vf_image.specs.Standing.{IsAtSave}
@@ -20,7 +20,7 @@ use Rattle.vf_book.specs.Attempts.{IsOpen, IsWithin}
 use Rattle.vf_book.specs.Forks.{HasBaseOf, IsKeptAs}
 use Rattle.vf_book.proofs.CallLemmas.{made_of}
 use Rattle.vf_book.proofs.StartLemmas.{has_base_for}
-use Rattle.vf_book.proofs.SaveLemmas.{unsaved, place_empty, covers_saved}
+use Rattle.vf_book.proofs.SaveLemmas.{unsaved, covers_saved}
 use Rattle.vf_book.proofs.Entries.{save_lawful, save_counts}
 
 module _ (a : Account) (images : List (Option Checkpoint)) (book : IsBook (made_of a images)) (kept : IsAccount a) (s : Simulator) (runs : IsOpen a s) (sim : IsSimulator s)

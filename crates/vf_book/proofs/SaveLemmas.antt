@@ -1,5 +1,5 @@
 -- An image that is kept in a book.
-use Rattle.std.proofs.Common.{◌≡◌, ◌≢◌, ℕ, ◌<◌, true, false, List, length, Option, Some, None, is_some, refl, sym, ap, ◌∙◌, arith, subst, inl, inr, ◌⊎◌}
+use Rattle.std.proofs.Common.{◌≡◌, ◌≢◌, ℕ, ◌<◌, true, List, length, Option, Some, None, refl, sym, ap, ◌∙◌, subst, inl, inr, ◌⊎◌}
 use Rattle.std.specs.Prelude.{slice_set}
 use Rattle.std.proofs.lemmas.Bool.{cases_eq, false≢true}
 use Rattle.std.proofs.lemmas.List.{get_or-set_same, get_or-set_other, length-set}
@@ -12,11 +12,10 @@ use Rattle.vf_journal.specs.Records.{Held, Attempt, Records, Stage, idle, runnin
 use Rattle.vf_journal.specs.Effects.{IsRunning}
 use Rattle.vf_journal.specs.Holding.{saved_image}
 use Rattle.vf_journal.proofs.CallerLemmas.{image_last, found_held}
-use Rattle.vf_records.specs.Account.{Account, IsAccount, farm_of, solo_of, records_in, records_after}
+use Rattle.vf_records.specs.Account.{Account, IsAccount, farm_of, solo_of, records_in}
 use Rattle.vf_image.specs.Images.{Checkpoint}
-use Rattle.vf_book.specs.Book.{image_at, IsHeldAs, Fits, Covered, CoveredAt, IsBook, Covers, Appends}
+use Rattle.vf_book.specs.Book.{image_at, IsHeldAs, Fits, Covered, IsBook, Covers, Appends}
 use Rattle.vf_book.proofs.CallLemmas.{made_of}
-use Rattle.vf_book.proofs.StartLemmas.{fit_at}
 
 -- a node whose job runs has no image
 not_over : (s : Stage) (attempt : Attempt) → s ≡ running attempt → is_over s ≡ true → ⊥

@@ -1,23 +1,20 @@
 -- A job that starts from an image of a book, and the base over which an image is kept.
-use Rattle.std.proofs.Common.{◌≡◌, ◌≢◌, ℕ, zero, suc, ◌+◌, ◌<◌, ◌≤◌, ◌==◌, ◌&&◌, ◌||◌, Bool, true, false, if◌then◌else◌, List, [], ◌∷◌, ◌++◌, length, Option, Some, None, option_map, is_some, refl, sym, ap, ap₂, ◌∙◌, arith, subst}
-use Rattle.std.specs.Prelude.{option_and_then}
+use Rattle.std.proofs.Common.{◌≡◌, ℕ, ◌+◌, ◌<◌, ◌||◌, Bool, true, false, if◌then◌else◌, List, [], ◌∷◌, ◌++◌, length, Option, Some, None, option_map, is_some, refl, sym, ap, ◌∙◌, arith, subst}
 use Rattle.std.specs.List.{list_any}
-use Rattle.std.proofs.lemmas.Bool.{eqb-true, eq-eqb, false≢true, and_parts}
+use Rattle.std.proofs.lemmas.Bool.{eqb-true, eq-eqb, false≢true}
 use Rattle.vf_base.specs.declared.names.Job.{Job}
 use Rattle.vf_base.specs.declared.names.Job.TheVariants.{Reach, Finish}
 use Rattle.vf_base.specs.declared.names.NodeNo.{NodeNo}
-use Rattle.vf_base.specs.declared.run.Header.{Header}
 use Rattle.vf_base.specs.declared.run.SaveKind.{SaveKind}
 use Rattle.vf_plan.specs.declared.plan.Node.{Node}
-use Rattle.vf_jobs.specs.Jobs as jobs
-use Rattle.vf_jobs.specs.Jobs.{node_of, node_no, has_child, jobs_at, jobs_from}
+use Rattle.vf_jobs.specs.Jobs.{node_of, node_no, has_child, jobs_from}
 use Rattle.vf_jobs.specs.Setup.{Conditions}
 use Rattle.vf_journal.specs.declared.entry.Entry.TheVariants.{Start}
-use Rattle.vf_journal.specs.Records.{Held, Attempt, Records, attempt_from, running, image_of, is_idle, is_job, is_known, is_ready, same_job}
+use Rattle.vf_journal.specs.Records.{Held, Records, attempt_from, running, image_of, is_job, same_job}
 use Rattle.vf_journal.specs.Effects.{origin_of, started_from}
 use Rattle.vf_journal.specs.Journal.{base_for}
 use Rattle.vf_journal.specs.Holding.{HasBase, IsBased, IsHeld}
-use Rattle.vf_journal.proofs.CallerLemmas.{found_held, base_serves, IsServed, origin_serves}
+use Rattle.vf_journal.proofs.CallerLemmas.{found_held, base_serves, origin_serves}
 use Rattle.vf_records.specs.Account.{Account, IsAccount, farm_of, solo_of, records_in}
 use Rattle.vf_image.specs.Images.{Checkpoint, IsImage, IsBaseOf}
 use Rattle.vf_image.specs.Simulators.{Simulator}
@@ -25,7 +22,7 @@ use Rattle.vf_book.specs.Book.{image_at, IsHeldAs, Fits, IsBook, Appends}
 use Rattle.vf_book.specs.Attempts.{IsOpen}
 use Rattle.vf_book.specs.Forks.{HasBaseIn, IsSource, HasSource, StandsAt, StandsAtOrigin, IsBaseFor, HasBaseOf}
 use Rattle.vf_book.proofs.CallLemmas.{made_of, held_inside}
-use Rattle.vf_book.proofs.Entries.{IsImageOf, ServesAsBase, origin_serves_job, base_serves_job}
+use Rattle.vf_book.proofs.Entries.{IsImageOf, origin_serves_job, base_serves_job}
 
 -- ---- the image that the records hold
 

@@ -10,7 +10,7 @@ use Rattle.vf_jobs.specs.Jobs.{node_no}
 use Rattle.vf_jobs.specs.Setup.{Conditions}
 use Rattle.vf_journal.specs.declared.entry.Entry.{Entry}
 use Rattle.vf_journal.specs.declared.entry.Entry.TheVariants.{Saved, Evict}
-use Rattle.vf_journal.specs.Records.{Held, Records, image_of}
+use Rattle.vf_journal.specs.Records.{Held, image_of}
 use Rattle.vf_journal.specs.Journal.{base_for, next_evicted, SavesSolo}
 use Rattle.vf_records.specs.Account.{Account, farm_of, records_in, records_after, with_entry}
 use Rattle.vf_image.specs.Images.{Checkpoint}

@@ -1,11 +1,11 @@
-use Rattle.std.proofs.Common.{◌≡◌, ◌<◌, ◌∙◌, true, false, length, Option, Some, option_map, is_some, sym, ap, subst, IfOk}
+use Rattle.std.proofs.Common.{◌≡◌, ◌<◌, ◌∙◌, true, length, Option, is_some, sym, ap, subst, IfOk}
 use Rattle.std.specs.Prelude.{IfSome}
 use Rattle.vf_base.specs.declared.names.NodeNo.{NodeNo}
 use Rattle.vf_image.specs.Images.{Checkpoint}
 use Rattle.vf_image.specs.Simulators.{Simulator}
 use Rattle.vf_base.specs.declared.run.Header.{Header}
 use Rattle.vf_book.specs.Book.{image_at}
-use Rattle.vf_book.specs.Forks.{HasBaseIn, IsSource, StandsAt}
+use Rattle.vf_book.specs.Forks.{HasBaseIn, StandsAt}
 use Rattle.vf_book.proofs.HolderLemmas.{keeps-refused}
 use Rattle.vf_book.specs.Book.{holders}
 use Rattle.vf_book.proofs.ForkLemmas.{base_there, has_base, keeps-source, lent_forked, ok_weaker, ok_both, either_weaker}

@@ -1,4 +1,4 @@
-use Rattle.std.proofs.Common.{◌≡◌, Option, sym, subst, IfOk}
+use Rattle.std.proofs.Common.{Option, sym, subst, IfOk}
 use Rattle.std.specs.Arc.{arc_value}
 use Rattle.vf_base.specs.declared.names.NodeNo.{NodeNo}
 use Rattle.vf_image.specs.Images.{Checkpoint}

@@ -1,6 +1,5 @@
-use Rattle.std.proofs.Common.{◌≡◌, ◌∙◌, Option, Some, ◌∷◌, sym, subst}
+use Rattle.std.proofs.Common.{◌∙◌, ◌∷◌, sym, subst}
 use Rattle.vf_frames.specs.Holders.{Keeps}
-use Rattle.vf_image.specs.Images.{Checkpoint}
 use Rattle.vf_book.specs.Book.{holders}
 use Rattle.vf_book.proofs.HolderLemmas.{keeps-given}
 use Rattle.vf_book.proofs.images.give_back.Goals as goal

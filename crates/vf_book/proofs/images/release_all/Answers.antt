@@ -1,4 +1,4 @@
-use Rattle.std.proofs.Common.{◌≡◌, ◌<◌, ◌∙◌, length, ap, arith}
+use Rattle.std.proofs.Common.{◌∙◌, length, ap, arith}
 use Rattle.vf_jobs.specs.Setup.{Conditions}
 use Rattle.vf_book.proofs.CallLemmas.{holders-gone}
 use Rattle.vf_book.proofs.images.release_all.Goals as goal

@@ -1,4 +1,4 @@
-use Rattle.std.proofs.Common.{◌≡◌, ◌∙◌, ◌∷◌, [], sym, subst}
+use Rattle.std.proofs.Common.{◌∙◌, ◌∷◌}
 use Rattle.vf_journal.specs.declared.entry.Entry.TheVariants.{End}
 use Rattle.vf_book.specs.Book.{holders}
 use Rattle.vf_book.proofs.HolderLemmas.{are_of-renamed, hand-then, hand-given, keeps-on, keeps-ended}

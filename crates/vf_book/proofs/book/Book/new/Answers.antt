@@ -1,4 +1,4 @@
-use Rattle.std.proofs.Common.{◌≡◌, ◌∙◌, Option, None, List, length, replicate, ap, ap₂, arith}
+use Rattle.std.proofs.Common.{◌≡◌, ◌∙◌, Option, None, List, length, replicate, ap, arith}
 use Rattle.std.specs.Arc.{arc_value}
 use Rattle.vf_jobs.specs.Setup.{Conditions}
 use Rattle.vf_image.specs.Images.{Checkpoint}

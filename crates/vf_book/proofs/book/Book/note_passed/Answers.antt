@@ -1,5 +1,3 @@
-use Rattle.std.proofs.Common.{◌≡◌, ◌∙◌, ap}
-use Rattle.vf_jobs.specs.Jobs.{node_of}
 use Rattle.vf_book.proofs.ImageLemmas.{covers_pass}
 use Rattle.vf_book.proofs.CallLemmas.{inside_open, inside_images, may_pass, within_budget, outside_appends, passed_as}
 use Rattle.vf_book.proofs.book.Book.note_passed.Goals as goal

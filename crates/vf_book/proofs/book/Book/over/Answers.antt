@@ -1,4 +1,4 @@
-use Rattle.std.proofs.Common.{◌≡◌, ◌∙◌, ◌∷◌, [], sym, subst}
+use Rattle.std.proofs.Common.{◌≡◌, ◌∷◌, [], sym, subst}
 use Rattle.vf_journal.specs.declared.entry.Entry.TheVariants.{Pages}
 use Rattle.vf_journal.specs.Effects.{IsAlone}
 use Rattle.vf_records.specs.Account.{records_in}

@@ -1,6 +1,4 @@
-use Rattle.std.proofs.Common.{◌≡◌, ◌∙◌, ◌∷◌, List, Option, Some, sym, subst}
-use Rattle.std.specs.Prelude.{slice_set}
-use Rattle.vf_frames.specs.declared.holder.Holder.{Holder}
+use Rattle.std.proofs.Common.{◌∙◌, ◌∷◌, List, Option, sym, subst}
 use Rattle.vf_frames.specs.Holders.{Keeps}
 use Rattle.vf_journal.specs.declared.entry.Entry.TheVariants.{Saved}
 use Rattle.vf_image.specs.Images.{Checkpoint}
