@@ -1,5 +1,5 @@
 -- What an entry, with what follows from it, leaves of jobs and images.
-use Rattle.std.proofs.Common.{◌≡◌, ℕ, ◌<◌, ◌≤◌, ◌==◌, ◌||◌, Bool, true, false, cond, not, if◌then◌else◌, List, [], ◌∷◌, ◌++◌, Option, Some, None, option_and_then, refl, sym, ◌∙◌, ap, subst, arith, ⊎_elim, inl, inr, ◌⊎◌, length}
+use Rattle.std.proofs.Common.{◌≡◌, ℕ, ◌<◌, ◌≤◌, ◌==◌, ◌||◌, Bool, true, false, cond, not, if◌then◌else◌, List, [], ◌∷◌, ◌++◌, Option, Some, None, option_and_then, refl, sym, ◌∙◌, ap, subst, arith, ⊎_elim, inl, inr, ◌⊎◌, length, is_some}
 use Rattle.std.specs.List.{list_any, find, filter, All}
 use Rattle.std.proofs.lemmas.Bool.{false≢true, eq-eqb, or_cases, or_from, false_from_ne_true}
 use Rattle.std.proofs.lemmas.List.Elements.{All-head, All-tail}
@@ -74,10 +74,42 @@ evict_leaves f seen r node n = find_filtered (λ (m : NodeNo). not (m.0 == node.
     turned true o = refl
     turned false o = refl
 
+shorter : {X : Type 0} (p : X → Bool) (xs : List X) → length (filter p xs) ≤ length xs
+shorter p [] = omega arith
+shorter p (x ∷ xs) = by (p x) (shorter p xs)
+  where
+    by : (b : Bool) → length (filter p xs) ≤ length xs → length (cond b (x ∷ filter p xs) (filter p xs)) ≤ length (x ∷ xs)
+    by true rest = omega (arith, rest)
+    by false rest = omega (arith, rest)
+
+one_less : {X : Type 0} (p : X → Bool) (xs : List X) → is_some (find p xs) ≡ true → length (filter (λ x. not (p x)) xs) < length xs
+one_less p [] h = absurd (false≢true h)
+one_less p (x ∷ xs) h = by (p x) h (shorter (λ x. not (p x)) xs) (one_less p xs)
+  where
+    by : (b : Bool) → is_some (cond b (Some x) (find p xs)) ≡ true → length (filter (λ x. not (p x)) xs) ≤ length xs
+        → (is_some (find p xs) ≡ true → length (filter (λ x. not (p x)) xs) < length xs)
+        → length (cond (not b) (x ∷ filter (λ x. not (p x)) xs) (filter (λ x. not (p x)) xs)) < length (x ∷ xs)
+    by true g less rest = omega (arith, less)
+    by false g less rest = let one = rest g in omega (arith, one)
+
+-- fewer images are held after an Evict
+pub evict_falls : {S : Type 0} (f : Farm S) (seen : Seen) (r : Records) (node : NodeNo) → is_some (image_of r node) ≡ true → length (after f seen r (Evict node)).held < length r.held
+evict_falls f seen r node h = one_less (λ (x : Held). x.node.0 == node.0) r.held h
+
 -- an image that is found is held
 pub found_held : {S : Type 0} (f : Farm S) (r : Records) (n : NodeNo) (h : Held) → AreHeld f r → image_of r n ≡ Some h → IsHeld f r h × (h.node ≡ n)
 found_held f r n h held e =
     let both = find_holds (IsHeld f r) (λ x. x.node.0 == n.0) r.held h e held.each in (both.0, same_node h.node n both.1)
+
+-- a node that a running job reaches has no image
+pub running_free : {S : Type 0} (f : Farm S) (r : Records) (node : NodeNo) (attempt : Attempt) → AreHeld f r → IsRunning r (Reach node) attempt → image_of r node ≡ None
+running_free f r node attempt held runs = by (image_of r node) refl
+  where
+    by : (o : Option Held) → image_of r node ≡ o → o ≡ None
+    by None e = refl
+    by (Some h) e =
+        let found = found_held f r node h held e in
+        absurd (false≢true (sym (running_alive (r.stages (Reach node)) attempt runs) ∙ ap (λ n. is_over (r.stages (Reach n))) (sym found.1) ∙ found.0.over))
 
 -- ---- the base of an image that is saved
 
@@ -153,7 +185,7 @@ over_stays f seen r (Evict node) job guard h = h
 over_stays f seen r (Retire node) job guard h = absurd guard
 over_stays f seen r Rest job guard h = again_over (r.stages job) h
 
-same_itself : (job : Job) → same_job job job ≡ true
+pub same_itself : (job : Job) → same_job job job ≡ true
 same_itself (Reach n) = eq-eqb n.0 n.0 refl
 same_itself (Finish n) = eq-eqb n.0 n.0 refl
 

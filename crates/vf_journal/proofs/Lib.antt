@@ -9,5 +9,6 @@ pub mod ReplayLemmas
 pub mod ImageLists
 pub mod HoldingLemmas
 pub mod AfterLemmas
+pub mod TightLemmas
 pub mod CallerLemmas
 mod Rows

@@ -1,6 +1,7 @@
 -- What the tables say where a job starts or is over.
-use Rattle.std.proofs.Common.{◌≡◌, ℕ, zero, suc, ◌+◌, ◌<◌, ◌≤◌, Bool, true, false, ◌&&◌, ◌||◌, ◌==◌, not, if◌then◌else◌, List, [], ◌∷◌, ◌++◌, length, map, option_map, Option, Some, None, refl, sym, ◌∙◌, ap, ap₂, subst, arith, slice_get, slice_set, get_or, nat_lt, replicate, sum_by}
-use Rattle.std.proofs.lemmas.Bool.{eqb-true, eqb-false, eq-eqb, ltb-true, ltb-false, false≢true, and_parts}
+use Rattle.std.proofs.Common.{◌≡◌, ℕ, ◌+◌, ◌<◌, ◌≤◌, Bool, true, false, ◌&&◌, ◌==◌, if◌then◌else◌, List, [], length, map, option_map, Option, Some, None, refl, sym, ◌∙◌, ap, ap₂, arith, slice_get, slice_set, get_or, nat_lt, replicate, sum_by}
+use Rattle.std.specs.List.{find}
+use Rattle.std.proofs.lemmas.Bool.{eqb-true, eqb-false, ltb-true, ltb-false, false≢true, and_parts}
 use Rattle.std.proofs.lemmas.List.{get_or-set_same, get_or-set_other, get_or-replicate, length-set, length-replicate, length-map, ext_get_or, get_or_read}
 use Rattle.std.proofs.Math.ListN.{get_or-eq_default}
 use Rattle.std.proofs.lemmas.List.Sums.{sum_by-set}
@@ -16,7 +17,7 @@ use Rattle.vf_journal.specs.declared.entry.Kind.{Kind}
 use Rattle.vf_journal.specs.declared.entry.Kind.TheVariants.{Unknown}
 use Rattle.vf_journal.specs.declared.entry.Told.{Told}
 use Rattle.vf_journal.specs.Journal.{still_held}
-use Rattle.vf_journal.specs.Records.{Held, Stage, idle, running, deferred, over, Records, at_first, told_by, state_at, state_of, same_job, is_job, is_ready, is_idle, is_over, is_known}
+use Rattle.vf_journal.specs.Records.{Held, Stage, idle, running, deferred, over, Records, at_first, told_by, state_at, state_of, is_job, is_ready, is_idle, is_over, is_known}
 use Rattle.vf_journal.specs.Effects.{with_stage, with_over}
 use Rattle.vf_records.specs.declared.layout.Place.{Place}
 use Rattle.vf_records.specs.declared.row.Attempt.{Attempt}
@@ -26,7 +27,7 @@ use Rattle.vf_records.specs.declared.row.Progress.TheVariants as rows
 use Rattle.vf_records.specs.declared.tables.Tables.{Tables}
 use Rattle.vf_records.specs.Account.{farm_of, attempt_at, full_held}
 use Rattle.vf_records.specs.Layout.{place_in, IsLaidOut}
-use Rattle.vf_records.specs.Tables.{attempt_of, held_of, stage_of, stands_at, stage_at, stage_in, kinds_with, records_of, to_come, is_over_progress, is_idle_progress, AreOver, AreTables}
+use Rattle.vf_records.specs.Tables.{attempt_of, held_of, stage_of, stands_at, stage_at, stage_in, kinds_with, records_of, to_come, is_over_progress, is_idle_progress, AreOver, AreImaged, AreTables}
 use Rattle.vf_records.proofs.TableLemmas.{job_at, listed_all, stage_self, same_records, stage_after, stage_run, idle_open}
 use Rattle.vf_records.proofs.ReadyLemmas.{over_at, ready_at, standing}
 
@@ -158,7 +159,7 @@ kinds_long (Finish n) kind kinds = refl
 
 -- ---- where nothing has been done
 
-same_all : {A : Type 0} (n k : ℕ) (x : A) → get_or (replicate n x) k x ≡ x
+pub same_all : {A : Type 0} (n k : ℕ) (x : A) → get_or (replicate n x) k x ≡ x
 same_all n k x = by (nat_lt k n) refl
   where
     by : (b : Bool) → nat_lt k n ≡ b → get_or (replicate n x) k x ≡ x
@@ -179,6 +180,11 @@ pub shown_first : (listed : List Job) (places : List Place) (kinds : List Kind) 
 shown_first listed places kinds progress told held n m ek ep et eh =
     same_records (shown kinds listed places progress told held) at_first (λ k. ap (λ (ks : List Kind). get_or ks k Unknown) ek ∙ same_all m k Unknown)
     (λ job. ap₂ (λ (a : List Progress) (b : List (Option Told)). stage_in listed places a b job) ep et ∙ idle_stage listed n job (place_in places job)) (ap (map held_of) eh) refl
+
+-- no image is held, and none is shown
+pub none_imaged : (held : List HeldImage) (images : List (Option HeldImage)) (m : ℕ) → held ≡ [] → images ≡ replicate m None → AreImaged held images
+none_imaged held images m eh ei k =
+    ap (λ (os : List (Option HeldImage)). get_or os k None) ei ∙ same_all m k None ∙ ap (λ (hs : List HeldImage). find (λ (h : HeldImage). h.node.0 == k) hs) (sym eh)
 
 -- ---- what is told
 

@@ -1,5 +1,5 @@
 -- The image that the order chooses, image after image.
-use Rattle.std.proofs.Common.{◌≡◌, ℕ, zero, suc, ◌+◌, ◌<◌, ◌≤◌, Bool, true, false, ◌||◌, not, if◌then◌else◌, List, [], ◌∷◌, length, map, drop, Option, Some, None, option_map, refl, sym, ◌∙◌, ap, arith, slice_get, unwrap_or}
+use Rattle.std.proofs.Common.{◌≡◌, ℕ, zero, suc, ◌+◌, ◌≤◌, Bool, true, false, ◌||◌, not, if◌then◌else◌, List, [], ◌∷◌, length, map, drop, Some, None, refl, ◌∙◌, ap, arith, slice_get, unwrap_or}
 use Rattle.std.specs.List.{list_any, filter}
 use Rattle.vf_jobs.specs.declared.setup.Order.{Order}
 use Rattle.vf_jobs.specs.declared.setup.Order.TheVariants.{Oldest, Deepest, Widest}

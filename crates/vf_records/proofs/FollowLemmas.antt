@@ -1,6 +1,6 @@
 -- What follows where a job is over: copies one after another, and images given back one after another.
-use Rattle.std.proofs.Common.{◌≡◌, ℕ, zero, suc, ◌+◌, ◌-◌, ◌<◌, ◌≤◌, Bool, true, false, ◌==◌, not, if◌then◌else◌, List, [], ◌∷◌, ◌++◌, length, map, Option, Some, None, is_some, refl, sym, ◌∙◌, ap, ap₂, subst, arith, slice_get, append_assoc, append-nil}
-use Rattle.std.specs.List.{filter, find, All}
+use Rattle.std.proofs.Common.{◌≡◌, ℕ, ◌+◌, ◌<◌, ◌≤◌, Bool, true, false, ◌==◌, not, List, [], ◌∷◌, ◌++◌, length, map, Some, is_some, refl, sym, ◌∙◌, ap, arith, slice_get, append_assoc, append-nil}
+use Rattle.std.specs.List.{filter, find}
 use Rattle.std.proofs.lemmas.List.{length-map}
 use Rattle.std.proofs.lemmas.List.Elements.{All-map}
 use Rattle.vf_base.specs.declared.names.Job.{Job}
@@ -8,14 +8,11 @@ use Rattle.vf_base.specs.declared.names.NodeNo.{NodeNo}
 use Rattle.vf_base.specs.declared.run.Header.{Header}
 use Rattle.vf_jobs.specs.Jobs.{node_no}
 use Rattle.vf_jobs.specs.Setup.{Conditions}
-use Rattle.vf_journal.specs.declared.entry.Entry.{Entry}
 use Rattle.vf_journal.specs.declared.entry.Entry.TheVariants.{Copy, Retire}
 use Rattle.vf_journal.specs.declared.entry.Told.TheVariants as told
 use Rattle.vf_journal.specs.Records.{Held, Records}
 use Rattle.vf_journal.specs.Effects as effects
 use Rattle.vf_journal.specs.Effects.{with_over, with_copies, without_image, without_unneeded, copies, retirings, is_copied, is_retired}
-use Rattle.vf_records.specs.declared.layout.Layout.{Layout}
-use Rattle.vf_records.specs.declared.layout.Place.{Place}
 use Rattle.vf_records.specs.declared.row.HeldImage.{HeldImage}
 use Rattle.vf_records.specs.declared.tables.Tables.{Tables}
 use Rattle.vf_records.specs.Account.{farm_of}

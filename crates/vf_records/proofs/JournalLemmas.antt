@@ -4,14 +4,13 @@ use Rattle.std.specs.List.{filter}
 use Rattle.vf_base.specs.declared.names.Job.{Job}
 use Rattle.vf_base.specs.declared.names.NodeNo.{NodeNo}
 use Rattle.vf_jobs.specs.Jobs.{jobs, node_no}
-use Rattle.vf_jobs.specs.Setup.{Conditions}
 use Rattle.vf_journal.specs.declared.entry.Entry.{Entry}
 use Rattle.vf_journal.specs.declared.entry.Entry.TheVariants.{Copy, Retire}
 use Rattle.vf_journal.specs.Farm.{Farm}
 use Rattle.vf_journal.specs.Records.{Records, at_first}
 use Rattle.vf_journal.specs.Effects.{Spread, after, consequences, copies, retirings, is_copied, is_retired, down_from, ends_job, spread_of, by_itself, with_its_copies}
 use Rattle.vf_journal.specs.Journal.{IsJournal, Choice, ordered, begun, next, of_solo, replay}
-use Rattle.vf_records.specs.Account.{Account, farm_of, solo_of, records_in, records_after, with_entry, IsLawful}
+use Rattle.vf_records.specs.Account.{Account, farm_of, solo_of, records_in, IsLawful}
 
 module _ {S : Type 0} (f : Farm S) where
   replay-append : (r : Records) (xs ys : List Entry) → replay f (of_solo f) r (xs ++ ys) ≡ replay f (of_solo f) (replay f (of_solo f) r xs) ys

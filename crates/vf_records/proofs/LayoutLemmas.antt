@@ -1,5 +1,5 @@
 -- Where jobs stand among the jobs of a plan.
-use Rattle.std.proofs.Common.{◌≡◌, ℕ, zero, suc, ◌+◌, ◌<◌, ◌≤◌, Bool, true, false, ◌&&◌, ◌||◌, ◌==◌, if◌then◌else◌, List, [], ◌∷◌, ◌++◌, ◌⊎◌, inl, inr, length, take, drop, Option, Some, None, refl, sym, ◌∙◌, ap, ap₂, subst, arith, slice_get, get_or, unwrap_or, append_assoc, append-nil, length-append}
+use Rattle.std.proofs.Common.{◌≡◌, ℕ, zero, suc, ◌+◌, ◌<◌, Bool, true, false, ◌||◌, ◌==◌, if◌then◌else◌, List, [], ◌∷◌, ◌++◌, ◌⊎◌, inl, inr, length, take, Some, refl, sym, ◌∙◌, ap, subst, arith, slice_get, get_or, unwrap_or, append_assoc, append-nil, length-append}
 use Rattle.std.specs.List.{list_any}
 use Rattle.std.proofs.Math.Seq.{take-suc, get_or-append_seam}
 use Rattle.std.proofs.lemmas.Bool.{eqb-true, eq-eqb, false≢true}
@@ -11,7 +11,6 @@ use Rattle.vf_base.specs.declared.names.Job.TheVariants.{Reach, Finish}
 use Rattle.vf_base.specs.declared.names.NodeNo.{NodeNo}
 use Rattle.vf_plan.specs.declared.plan.Node.{Node}
 use Rattle.vf_jobs.specs.Jobs.{has_child, is_child_of, jobs_at, jobs_from, node_of, node_no}
-use Rattle.vf_journal.specs.Records.{same_job}
 use Rattle.vf_records.specs.declared.layout.Place.{Place}
 use Rattle.vf_records.specs.Layout.{place_of_node, no_place, place_at, place_in, IsLaidOut}
 

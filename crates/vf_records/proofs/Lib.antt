@@ -3,6 +3,7 @@ pub mod TableLemmas
 pub mod ReadyLemmas
 pub mod CopyLemmas
 pub mod RetireLemmas
+pub mod ImageTable
 pub mod JournalLemmas
 pub mod EventLemmas
 pub mod RecordLemmas

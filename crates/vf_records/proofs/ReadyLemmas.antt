@@ -1,15 +1,13 @@
 -- Ready jobs, and the nearest image that fits.
-use Rattle.std.proofs.Common.{◌≡◌, ℕ, zero, suc, ◌+◌, ◌<◌, ◌≤◌, Bool, true, false, ◌&&◌, ◌||◌, ◌==◌, not, if◌then◌else◌, List, [], ◌∷◌, ◌++◌, length, take, drop, map, Option, Some, None, IfSome, option_map, refl, sym, ◌∙◌, ap, ap₂, subst, arith, slice_get, get_or, unwrap_or, ⊎_elim}
-use Rattle.std.specs.List.{list_any, find, All}
+use Rattle.std.proofs.Common.{◌≡◌, ℕ, zero, suc, ◌+◌, ◌<◌, ◌≤◌, Bool, true, false, ◌&&◌, ◌||◌, not, if◌then◌else◌, List, [], ◌∷◌, length, drop, Option, Some, None, IfSome, refl, sym, ◌∙◌, ap, ap₂, arith, slice_get, get_or, unwrap_or, ⊎_elim}
+use Rattle.std.specs.List.{list_any, find}
 use Rattle.std.proofs.lemmas.Bool.{false≢true, and_parts, or_parts, or_cases, or_from, or_left, or_right}
-use Rattle.std.proofs.lemmas.Option.{slice_get_within, slice_get-map}
 use Rattle.vf_base.specs.declared.names.Job.{Job}
-use Rattle.vf_base.specs.declared.names.Job.TheVariants.{Reach, Finish}
 use Rattle.vf_base.specs.declared.names.NodeNo.{NodeNo}
 use Rattle.vf_base.specs.declared.run.Header.{Header}
 use Rattle.vf_base.specs.declared.run.Limits.{Limits}
 use Rattle.vf_plan.specs.declared.plan.Node.{Node}
-use Rattle.vf_plan.specs.Paths.{at_parent, grown, path, with_number}
+use Rattle.vf_plan.specs.Paths.{at_parent, grown, with_number}
 use Rattle.vf_plan.proofs.CallerLemmas.{path-at}
 use Rattle.vf_jobs.specs.Jobs as jobs
 use Rattle.vf_jobs.specs.Jobs.{node_of, node_no, first_fitting, holds_fitting, sources}
@@ -19,8 +17,7 @@ use Rattle.vf_design.specs.Words.{machine_of}
 use Rattle.vf_jobs.proofs.CallerLemmas.{endings_copied, passings_copied}
 use Rattle.vf_journal.specs.Holding.{NoneRuns}
 use Rattle.vf_journal.proofs.CallerLemmas.{ends_whole, is_done}
-use Rattle.vf_journal.specs.Records.{Held, Stage, idle, running, deferred, over, Records, same_job, is_job, is_known, is_ready, is_idle, is_over, image_of, some_job}
-use Rattle.vf_records.specs.declared.row.HeldImage.{HeldImage}
+use Rattle.vf_journal.specs.Records.{Held, Stage, idle, running, deferred, over, Records, same_job, is_job, is_known, is_ready, is_idle, is_over}
 use Rattle.vf_records.specs.declared.row.Progress.{Progress}
 use Rattle.vf_records.specs.declared.row.Progress.TheVariants as rows
 use Rattle.vf_records.specs.declared.tables.Tables.{Tables}
@@ -28,8 +25,8 @@ use Rattle.vf_journal.specs.Journal.{IsGivenUp, first_ready, ordered}
 use Rattle.vf_journal.specs.Farm.{Farm}
 use Rattle.vf_records.specs.declared.next.Next.TheVariants as nexts
 use Rattle.vf_records.specs.Account.{Account, farm_of, records_in, IsAccount, is_left, next_of, next_job_of}
-use Rattle.vf_records.specs.Tables.{records_of, held_of, is_over_progress, is_idle_progress, AreTables}
-use Rattle.vf_records.proofs.TableLemmas.{same_self, same_is, listed_all, is_job_at, stage_self, is_idle_of, is_over_of, holds_at}
+use Rattle.vf_records.specs.Tables.{records_of, is_over_progress, is_idle_progress, AreTables}
+use Rattle.vf_records.proofs.TableLemmas.{same_self, same_is, listed_all, is_job_at, stage_self, is_idle_of, is_over_of}
 
 -- ---- the first that passes a test
 
@@ -127,25 +124,6 @@ any_after test [] (suc n) h = refl
 any_after test (y ∷ xs) zero h = refl
 any_after test (y ∷ xs) (suc n) h =
     ap (λ b. b || list_any test xs) (h 0 y (omega arith) refl) ∙ any_after test xs n (λ k x less e. h (suc k) x (omega (arith, less)) e)
-
--- ---- the image of a node
-
-pub image_here : (images : List HeldImage) (k : ℕ) (image : HeldImage) (node : NodeNo) → slice_get images k ≡ Some image
-    → find (λ (h : Held). h.node.0 == node.0) (map held_of (drop k images))
-    ≡ (if image.node.0 == node.0 then Some (held_of image) else find (λ (h : Held). h.node.0 == node.0) (map held_of (drop (k + 1) images)))
-image_here [] k image node e = cc
-image_here (y ∷ images) zero image node e =
-    let is : y ≡ image = ap (λ o. unwrap_or o y) e in
-    ap (λ (z : HeldImage). if z.node.0 == node.0 then Some (held_of z) else find (λ (h : Held). h.node.0 == node.0) (map held_of images)) is
-image_here (y ∷ images) (suc k) image node e =
-    image_here images k image node e
-    ∙ ap (λ n. if image.node.0 == node.0 then Some (held_of image) else find (λ (h : Held). h.node.0 == node.0) (map held_of (drop n (y ∷ images)))) (let same : suc (k + 1) ≡ suc k + 1 = omega arith in same)
-
-pub image_past : (images : List HeldImage) (k : ℕ) (node : NodeNo) → length images ≤ k → find (λ (h : Held). h.node.0 == node.0) (map held_of (drop k images)) ≡ None
-image_past [] zero node h = refl
-image_past [] (suc k) node h = refl
-image_past (x ∷ images) zero node h = absurd (omega (arith, h))
-image_past (x ∷ images) (suc k) node h = image_past images k node (omega (arith, h))
 
 -- ---- from a node up
 

@@ -19,7 +19,6 @@ use Rattle.vf_journal.specs.declared.entry.Kind.TheVariants as kinds
 use Rattle.vf_journal.specs.Farm.{limits}
 use Rattle.vf_journal.specs.Records.{Held, Records, Attempt, Stage, idle, running, deferred, over, is_job, is_ready, is_running, is_deferred, is_over}
 use Rattle.vf_journal.proofs.CallerLemmas.{holds_images, some_can_go, tells_solo}
-use Rattle.vf_journal.specs.Effects as effects
 use Rattle.vf_journal.specs.Effects.{after, consequences, spread_of}
 use Rattle.vf_journal.specs.Journal.{IsJournal, ordered, next_evicted}
 use Rattle.vf_records.specs.declared.records.Records.TheInside.{Inside}

@@ -1,7 +1,7 @@
 -- Images that no job needs are given back, one node after another.
-use Rattle.std.proofs.Common.{◌≡◌, ℕ, zero, suc, ◌+◌, ◌<◌, ◌≤◌, Bool, true, false, ◌&&◌, ◌||◌, ◌==◌, nat_lt, not, if◌then◌else◌, List, [], ◌∷◌, ◌++◌, length, map, Option, Some, None, is_some, refl, sym, ◌∙◌, ap, ap₂, subst, arith, unwrap_or, append_assoc, append-nil}
+use Rattle.std.proofs.Common.{◌≡◌, ℕ, suc, ◌+◌, ◌<◌, ◌≤◌, Bool, true, false, ◌&&◌, ◌||◌, ◌==◌, nat_lt, not, if◌then◌else◌, List, [], ◌∷◌, ◌++◌, length, map, Option, Some, None, is_some, refl, sym, ◌∙◌, ap, ap₂, arith}
 use Rattle.std.specs.List.{filter, find, All}
-use Rattle.std.proofs.lemmas.Bool.{false≢true, ltb-true, ltb-false, lt-ltb, le-ltb, eqb-true, eqb-false, eq-eqb, ne_eqb}
+use Rattle.std.proofs.lemmas.Bool.{false≢true, lt-ltb, le-ltb, eqb-true, eqb-false}
 use Rattle.std.proofs.lemmas.List.Elements.{filter_agree, All-head, All-tail}
 use Rattle.vf_base.specs.declared.names.NodeNo.{NodeNo}
 use Rattle.vf_jobs.specs.Jobs.{node_no}
@@ -9,10 +9,8 @@ use Rattle.vf_jobs.specs.Setup.{Conditions}
 use Rattle.vf_journal.specs.declared.entry.Entry.{Entry}
 use Rattle.vf_journal.specs.declared.entry.Entry.TheVariants.{Retire}
 use Rattle.vf_journal.specs.Records.{Held, Records, image_of}
-use Rattle.vf_journal.specs.Effects.{is_needed, is_retired, retirings, without_image, without_unneeded, down_from}
-use Rattle.vf_records.specs.declared.row.HeldImage.{HeldImage}
+use Rattle.vf_journal.specs.Effects.{is_needed, is_retired, without_image, without_unneeded, down_from}
 use Rattle.vf_records.specs.Account.{farm_of}
-use Rattle.vf_records.specs.Tables.{held_of}
 use Rattle.vf_records.proofs.CopyLemmas.{not_equal, none_below, and_false}
 
 -- ---- filters

@@ -1,13 +1,11 @@
 -- What the tables of jobs say where one place is written.
-use Rattle.std.proofs.Common.{◌≡◌, ℕ, zero, suc, ◌+◌, ◌<◌, ◌≤◌, Bool, true, false, ◌&&◌, ◌||◌, ◌==◌, not, if◌then◌else◌, List, [], ◌∷◌, ◌++◌, length, take, drop, Option, Some, None, refl, sym, ◌∙◌, ap, ap₂, subst, arith, slice_get, slice_set, get_or, unwrap_or}
+use Rattle.std.proofs.Common.{◌≡◌, ℕ, zero, suc, ◌<◌, Bool, true, false, ◌||◌, ◌==◌, if◌then◌else◌, List, [], ◌∷◌, length, take, Option, Some, None, refl, sym, ◌∙◌, ap, ap₂, subst, slice_get, slice_set, get_or, unwrap_or}
 use Rattle.std.specs.List.{list_any}
 use Rattle.std.proofs.Math.Path.{fun_ext}
 use Rattle.std.proofs.lemmas.Bool.{eqb-true, eqb-false, eq-eqb, false≢true}
 use Rattle.std.proofs.lemmas.List.{get_or-set_same, get_or-set_other, set-get_or}
-use Rattle.std.proofs.lemmas.Option.{get_or_from_slice_get, slice_get_within}
 use Rattle.vf_base.specs.declared.names.Job.{Job}
 use Rattle.vf_base.specs.declared.names.Job.TheVariants.{Reach, Finish}
-use Rattle.vf_base.specs.declared.names.NodeNo.{NodeNo}
 use Rattle.vf_plan.specs.declared.plan.Node.{Node}
 use Rattle.vf_jobs.specs.Jobs as jobs
 use Rattle.vf_jobs.specs.Jobs.{node_of, node_no, jobs_from}

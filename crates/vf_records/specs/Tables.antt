@@ -1,11 +1,10 @@
 -- What the tables say, and what they keep.
-use Rattle.std.specs.Prelude.{◌≡◌, ℕ, ◌+◌, ◌*◌, ◌<◌, ◌≤◌, Bool, true, false, if◌then◌else◌, List, length, map, Option, Some, None, get_or, slice_get, slice_set, sum_by, vec_capacity}
-use Rattle.std.specs.List.{All}
+use Rattle.std.specs.Prelude.{◌≡◌, ℕ, ◌+◌, ◌*◌, ◌<◌, ◌≤◌, ◌==◌, Bool, true, false, if◌then◌else◌, List, length, map, Option, Some, None, get_or, slice_get, slice_set, sum_by, vec_capacity}
+use Rattle.std.specs.List.{All, find}
 use Rattle.vf_base.specs.declared.names.Job.{Job}
 use Rattle.vf_base.specs.declared.names.Job.TheVariants.{Reach, Finish}
 use Rattle.vf_base.specs.declared.run.Header.{Header}
 use Rattle.vf_plan.specs.declared.plan.Node.{Node}
-use Rattle.vf_jobs.specs.Jobs as jobs
 use Rattle.vf_journal.specs.declared.entry.Kind.{Kind}
 use Rattle.vf_journal.specs.declared.entry.Kind.TheVariants.{Unknown}
 use Rattle.vf_journal.specs.declared.entry.Told.{Told}
@@ -95,6 +94,10 @@ IsQuiet progress told = (k : ℕ) → is_over_progress (get_or progress k rows.I
 abbrev pub AreCounted : (Held → Header) → List HeldImage → Type 0
 AreCounted counts held = All (λ (h : HeldImage). h.counts ≡ counts (held_of h)) held
 
+-- each node has its image, where one is held
+abbrev pub AreImaged : List HeldImage → List (Option HeldImage) → Type 0
+AreImaged held images = (n : ℕ) → get_or images n None ≡ find (λ (h : HeldImage). h.node.0 == n) held
+
 -- the jobs of the first places are over
 abbrev pub AreOver : List Progress → ℕ → Type 0
 AreOver progress first = (k : ℕ) → k < first → is_over_progress (get_or progress k rows.Idle) ≡ true
@@ -108,4 +111,6 @@ pub record AreTables (nodes : List Node) (counts : Held → Header) (t : Tables)
   pub first : AreOver t.progress.items t.first
   pub counted : AreCounted counts t.held.items
   pub within : All (λ (h : HeldImage). h.node.0 < length nodes) t.held.items
+  pub imaged : AreImaged t.held.items t.images.items
+  pub images : length t.images.items ≡ length nodes
   pub room : HasRoom t

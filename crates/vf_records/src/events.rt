@@ -39,6 +39,14 @@ fn know(kinds: &mut Vec<Kind>, job: Job, kind: Kind)
     }
 }
 
+/// Writes the image of a node, or that it has none.
+fn show(images: &mut Vec<Option<HeldImage>>, node: NodeNo, image: Option<HeldImage>)
+    requires { node.0 < length images.old.items }
+    ensures { images.new.items ≡ slice_set images.old.items node.0 image }
+{
+    images[node.0 as usize] = image;
+}
+
 fn is_over(progress: Progress) -> bool
     ensures { result ≡ is_over_progress progress }
 {
@@ -133,14 +141,9 @@ impl Tables {
         for at in 0..self.layout.jobs.len() {
             if self.is_copied(setup, spread, at) {
                 let job = self.layout.jobs[at];
+                let entry = Entry::Copy(job, spread.node);
                 let tells = Some(Told::Copied(spread.node));
-                self.close(
-                    setup,
-                    Entry::Copy(job, spread.node),
-                    job,
-                    tells,
-                    spread.kind,
-                );
+                self.close(setup, entry, job, tells, spread.kind);
             }
         }
     }
@@ -173,11 +176,14 @@ impl Tables {
 
     /// Gives back the image of a node.
     fn release(&mut self, node: NodeNo)
-        ensures rest { self.new ≡ record self.old { held = self.new.held } }
+        requires { node.0 < length self.old.images.items }
+        ensures rest { self.new ≡ record self.old { held = self.new.held; images = self.new.images } }
+        ensures images { self.new.images.items ≡ slice_set self.old.images.items node.0 None }
         ensures held { self.new.held.items ≡ filter (λ h. not (h.node.0 == node.0)) self.old.held.items }
         ensures capacity { vec_capacity self.new.held ≡ vec_capacity self.old.held }
     {
         self.held.retain(|image| image.node.0 != node.0);
+        show(&mut self.images, node, None);
     }
 
     /// Gives back the image of a node by an entry.
@@ -267,6 +273,7 @@ impl Tables {
         requires job { is_job setup.now.plan (Job.Reach image.node) ≡ true }
         requires left { is_over ((records_of self.old).stages (Job.Reach image.node)) ≡ false }
         requires counts { image.counts ≡ (solo_of setup.now).counts (held_of image) }
+        requires free { image_of (records_of self.old) image.node ≡ None }
         ensures records { records_of self.new ≡ without_unneeded (farm_of setup.now) (with_over (Job.Reach image.node) None (Kind.Saved image.counts.turns)
             (record (records_of self.old) { held = (records_of self.old).held ++ held_of image ∷ [] })) }
         ensures journal { self.new.journal.items ≡ self.old.journal.items ++ Entry.Saved image.node image.counts.turns image.pages image.base
@@ -282,6 +289,7 @@ impl Tables {
         let kind = Kind::Saved(image.counts.turns);
         self.close(setup, entry, Job::Reach(image.node), None, kind);
         self.held.push_reserved(image);
+        show(&mut self.images, image.node, Some(image));
         self.retire(setup);
     }
 }

@@ -15,7 +15,7 @@ ghost use Rattle.vf_journal.specs.Journal.{first_ready, base_for};
 ghost use Rattle.vf_records.specs.Account.{attempt_at, full_held};
 ghost use Rattle.vf_records.specs.Account.{farm_of, solo_of, next_of, is_left};
 ghost use Rattle.vf_records.specs.Layout.{no_place};
-ghost use Rattle.vf_records.specs.Tables.{AreCounted, attempt_of, held_of, records_of, AreTables, is_over_progress, is_idle_progress};
+ghost use Rattle.vf_records.specs.Tables.{AreCounted, AreImaged, attempt_of, held_of, records_of, AreTables, is_over_progress, is_idle_progress};
 
 use crate::next::Next;
 use crate::row::{Attempt, HeldImage, Progress};
@@ -25,6 +25,13 @@ use vf_base::{Job, Limits, NodeNo, SaveKind};
 use vf_jobs::{Setup, limits_of};
 use vf_journal::{JobState, Kind};
 use vf_plan::Plan;
+
+/// The image at a place, where there is one.
+fn image_at(images: &Vec<Option<HeldImage>>, at: usize) -> Option<HeldImage>
+    ensures { result ≡ get_or images.now.items at None }
+{
+    if at < images.len() { images[at] } else { None }
+}
 
 impl Tables {
     fn is_known(&self, node: NodeNo) -> bool
@@ -162,16 +169,11 @@ impl Tables {
 
     /// The image of a node.
     pub(crate) fn image(&self, node: NodeNo) -> Option<HeldImage>
+        requires { AreImaged self.now.held.items self.now.images.items }
         ensures is { option_map held_of result ≡ image_of (records_of self.now) node }
         ensures counted { (counts : seen.Held → Header) → AreCounted counts self.now.held.items → IfSome result (λ h. h.counts ≡ counts (held_of h)) }
     {
-        for at in 0..self.held.len() {
-            let image = self.held[at];
-            if image.node.0 == node.0 {
-                return Some(image);
-            }
-        }
-        None
+        image_at(&self.images, node.0 as usize)
     }
 
     /// Whether a node's image is held and fits a job with these limits.
@@ -221,6 +223,7 @@ impl Tables {
 
     /// The attempt that starts from the image of a node, or from time zero.
     pub(crate) fn attempt_from(&self, origin: Option<NodeNo>) -> Attempt
+        requires { AreImaged self.now.held.items self.now.images.items }
         ensures { attempt_of result ≡ started_from (records_of self.now) origin }
     {
         if let Some(node) = origin
@@ -241,15 +244,10 @@ impl Tables {
 
     /// The node of the full image that an attempt's origin is or is based on, where it is held.
     fn still_held(&self, attempt: Option<Attempt>) -> Option<NodeNo>
+        requires { AreImaged self.now.held.items self.now.images.items }
         ensures { result ≡ option_map (λ h. h.node) (full_held (records_of self.now) (option_map attempt_of attempt)) }
     {
-        let Some(attempt) = attempt else {
-            return None;
-        };
-        let Some(node) = attempt.full else {
-            return None;
-        };
-        match self.image(node) {
+        match self.image(attempt?.full?) {
             Some(image) => Some(image.node),
             None => None,
         }

@@ -173,6 +173,7 @@ impl Records {
         ensures journal { self.new ≡ with_entry (Entry.Saved image.node image.counts.turns image.pages image.base) self.old }
         ensures records { records_in self.new ≡ records_after (Entry.Saved image.node image.counts.turns image.pages image.base) self.old }
     {
+        let _budget = budget(&self.setup);
         self.tables.keep(&self.setup, image);
     }
 

@@ -14,7 +14,7 @@ use vf_jobs::Setup;
 use vf_journal::{Entry, Kind, Told};
 
 /// The tables of a plan's jobs, by their places, and of its nodes, by their numbers; the images held, in
-/// the order in which they were saved; and the journal.
+/// the order in which they were saved, and by their nodes; and the journal.
 #[derive(Drop)]
 pub(crate) struct Tables {
     pub(crate) layout: Layout,
@@ -24,6 +24,8 @@ pub(crate) struct Tables {
     /// The jobs before this place are over.
     pub(crate) first: usize,
     pub(crate) held: Vec<HeldImage>,
+    /// The image of each node, where it is held.
+    pub(crate) images: Vec<Option<HeldImage>>,
     pub(crate) journal: Vec<Entry>,
 }
 
@@ -60,6 +62,7 @@ impl Tables {
         let told = untold(alloc, count)?;
         let kinds = filled(alloc, Kind::Unknown, setup.plan.nodes.len())?;
         let held = Vec::with_capacity(alloc, most)?;
+        let images = filled(alloc, None, setup.plan.nodes.len())?;
         let journal = Vec::with_capacity(alloc, most)?;
         Ok(Tables {
             layout,
@@ -68,6 +71,7 @@ impl Tables {
             kinds,
             first: 0,
             held,
+            images,
             journal,
         })
     }

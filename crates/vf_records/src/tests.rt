@@ -5,11 +5,11 @@ ghost use Rattle.vf_records.specs.Tables.{AreTables};
 use crate::evict::earlier;
 use crate::spread::{Reached, spread_of};
 use crate::tables::Tables;
-use crate::{Attempt, HeldImage, Next, Records};
+use crate::{HeldImage, Next, Records};
 use std::alloc::{AllocError, Global};
 use std::sync::Arc;
 use std::test::Fail;
-use vf_base::{Header, Job, Limits, NodeNo, SaveKind, Text};
+use vf_base::{Header, Job, Limits, NodeNo, Text};
 use vf_design::{Design, Instr};
 use vf_jobs::{Order, Setup};
 use vf_journal::{Entry, JobState, Kind, Told};
@@ -147,25 +147,14 @@ fn jobs_become_ready_in_their_order(rt: HostRuntime) -> Result<(), Fail> {
     Ok(())
 }
 
-// Starts the next job, and tells its attempt.
-fn start_next(records: &mut Records) -> Option<(Job, Option<NodeNo>, Option<Attempt>)> {
+// Starts the next job, and tells at which turn its attempt started.
+fn start_next(records: &mut Records) -> Option<(Job, Option<NodeNo>, u64)> {
     let Next::Job(job) = records.next_job() else {
         return None;
     };
     let origin = records.start(job);
     let attempt = records.attempt(job);
-    Some((job, origin, attempt))
-}
-
-// The base that an incremental image of the next job's node would have now.
-fn base_of_next(records: &Records) -> Option<NodeNo> {
-    let Next::Job(job) = records.next_job() else {
-        return None;
-    };
-    match job {
-        Job::Reach(node) => records.base_for(node, SaveKind::Incr),
-        Job::Finish(_) => None,
-    }
+    Some((job, origin, attempt?.since))
 }
 
 #[test]
@@ -173,15 +162,9 @@ fn a_job_that_runs_is_not_next(rt: HostRuntime) -> Result<(), Fail> {
     let alloc = rt.alloc();
     let setup = setup(alloc, ALIKE, Order::Oldest)?;
     let mut records = Records::new(alloc, &setup)?;
-    let attempt = Attempt {
-        origin: None,
-        full: None,
-        since: 0,
-    };
-    assert_eq!(rt; base_of_next(&records), None);
     assert_eq!(rt;
         start_next(&mut records),
-        Some((Job::Reach(NodeNo(0)), None, Some(attempt)))
+        Some((Job::Reach(NodeNo(0)), None, 0))
     );
     assert_eq!(rt; records.image(NodeNo(0)), None);
     assert_eq!(rt; records.next_job(), Next::Later);

@@ -1,4 +1,4 @@
-use Rattle.std.proofs.Common.{◌≡◌, ℕ, zero, suc, ◌<◌, ◌≤◌, ◌+◌, ◌∙◌, List, Option, Some, IfSome, length, slice_get, refl, sym, ap, subst, arith}
+use Rattle.std.proofs.Common.{◌≡◌, suc, ◌<◌, ◌+◌, ◌∙◌, List, Some, IfSome, length, slice_get, refl, sym, ap, subst, arith}
 use Rattle.std.proofs.lemmas.Option.{slice_get_read}
 use Rattle.vf_base.specs.declared.names.NodeNo.{NodeNo}
 use Rattle.vf_plan.specs.declared.plan.Node.{Node}

@@ -1,4 +1,4 @@
-use Rattle.std.proofs.Common.{◌≡◌, ◌-◌, ◌+◌, ◌≤◌, replicate, length}
+use Rattle.std.proofs.Common.{◌≡◌, replicate}
 use Rattle.vf_records.proofs.layout.filled.Given as goal
 
 abbrev pub invariant-loop : goal.invariant-loop

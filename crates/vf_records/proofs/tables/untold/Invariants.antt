@@ -1,4 +1,4 @@
-use Rattle.std.proofs.Common.{◌≡◌, ◌-◌, ◌+◌, ◌≤◌, None, replicate, length}
+use Rattle.std.proofs.Common.{◌≡◌, None, replicate}
 use Rattle.vf_records.proofs.tables.untold.Given as goal
 
 abbrev pub invariant-loop : goal.invariant-loop

@@ -1,9 +1,8 @@
-use Rattle.std.proofs.Common.{◌≡◌, ◌∙◌, ◌<◌, length, true, sym, arith}
+use Rattle.std.proofs.Common.{◌∙◌, ◌<◌, length, sym, arith}
 use Rattle.vf_jobs.specs.Jobs.{node_of}
 use Rattle.vf_journal.specs.declared.entry.Kind.TheVariants as kinds
-use Rattle.vf_journal.specs.Records.{is_ready}
 use Rattle.vf_records.specs.declared.spread.Reached.TheVariants as reached
-use Rattle.vf_records.specs.Account.{farm_of, solo_of}
+use Rattle.vf_records.specs.Account.{solo_of}
 use Rattle.vf_records.specs.Tables.{records_of}
 use Rattle.vf_records.proofs.ReadyLemmas.{ready_in}
 use Rattle.vf_records.proofs.EventLemmas.{ready_job, ready_open, placed_job}

@@ -1,4 +1,4 @@
-use Rattle.std.proofs.Common.{◌∙◌, refl, sym}
+use Rattle.std.proofs.Common.{◌∙◌, sym}
 use Rattle.std.proofs.lemmas.Bool.{or_right}
 use Rattle.vf_journal.specs.Records.{is_ready, is_running}
 use Rattle.vf_records.specs.Account.{farm_of, records_in}

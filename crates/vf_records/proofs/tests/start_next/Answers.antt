@@ -1,4 +1,4 @@
-use Rattle.std.proofs.Common.{◌≡◌, ◌∙◌, sym, ap}
+use Rattle.std.proofs.Common.{◌∙◌, sym, ap}
 use Rattle.vf_journal.specs.Records.{is_job}
 use Rattle.vf_records.specs.Account.{Account}
 use Rattle.vf_records.proofs.ReadyLemmas.{next_ready, next_planned}

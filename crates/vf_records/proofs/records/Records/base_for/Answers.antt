@@ -1,4 +1,4 @@
-use Rattle.std.proofs.Common.{◌≡◌, ◌∙◌, ap, option_map}
+use Rattle.std.proofs.Common.{◌∙◌, ap, option_map}
 use Rattle.vf_base.specs.declared.names.Job.TheVariants.{Reach}
 use Rattle.vf_jobs.specs.Setup.{Conditions}
 use Rattle.vf_journal.specs.Records.{Held, Records, is_job}

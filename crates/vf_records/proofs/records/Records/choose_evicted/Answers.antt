@@ -1,4 +1,4 @@
-use Rattle.std.proofs.Common.{◌≡◌, ◌∙◌, option_map, ap₂, subst}
+use Rattle.std.proofs.Common.{◌∙◌, option_map, ap₂, subst}
 use Rattle.vf_jobs.specs.Setup.{Conditions, IsSetup}
 use Rattle.vf_journal.specs.Records.{Held, Records}
 use Rattle.vf_journal.specs.Journal.{next_evicted}

@@ -1,4 +1,4 @@
-use Rattle.std.proofs.Common.{◌≡◌, ◌<◌, ◌∙◌, ◌++◌, ◌∷◌, List, Option, Some, None, option_map, true, false, is_some, sym, ap, ap₂}
+use Rattle.std.proofs.Common.{◌∙◌, is_some, ap}
 use Rattle.vf_journal.specs.declared.entry.Entry.TheVariants.{Evict}
 use Rattle.vf_journal.specs.Records.{Records, image_of}
 use Rattle.vf_records.proofs.RecordLemmas.{records_is, made}

@@ -1,5 +1,4 @@
-use Rattle.std.proofs.Common.{◌≡◌, ◌∙◌, List, Option, length, map, sym, ap, ap₂}
-use Rattle.std.specs.Arc.{arc_value}
+use Rattle.std.proofs.Common.{◌∙◌, map, ap}
 use Rattle.vf_journal.specs.Records.{Records}
 use Rattle.vf_records.specs.Tables.{held_of}
 use Rattle.vf_records.proofs.RecordLemmas.{records_is}

@@ -7,6 +7,9 @@ use Rattle.vf_records.specs.Tables.{held_of}
 use Rattle.vf_records.proofs.RecordLemmas.{records_is}
 use Rattle.vf_records.proofs.records.Records.image.Goals as goal
 
+pub image-requires : goal.image-requires
+image-requires c = c.self.invariant.tables.imaged
+
 pub returns-clause-image : goal.returns-clause-image
 returns-clause-image c =
     c.image.ensures.is ∙ ap (λ (r : Records). image_of r c.args.node) (records_is c.self.inside c.args.self.now c.self.view_is c.self.invariant)

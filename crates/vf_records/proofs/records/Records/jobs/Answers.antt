@@ -1,6 +1,5 @@
-use Rattle.std.proofs.Common.{◌≡◌, ◌∙◌, List, Option, length, map, sym, ap, ap₂}
+use Rattle.std.proofs.Common.{◌∙◌, ap}
 use Rattle.std.specs.Arc.{arc_value}
-use Rattle.vf_journal.specs.Records.{Records}
 use Rattle.vf_jobs.specs.Jobs as jobs
 use Rattle.vf_records.specs.Account.{Account}
 use Rattle.vf_records.proofs.TableLemmas.{listed_all}

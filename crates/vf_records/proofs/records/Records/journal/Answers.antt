@@ -1,5 +1,5 @@
 use Rattle.std.proofs.Common.{subst}
-use Rattle.vf_jobs.specs.Setup.{Conditions, IsSetup}
+use Rattle.vf_jobs.specs.Setup.{IsSetup}
 use Rattle.vf_records.proofs.RecordLemmas.{setup_is, account_kept}
 use Rattle.vf_records.proofs.records.Records.journal.Goals as goal
 

@@ -1,4 +1,3 @@
-use Rattle.std.proofs.Common.{◌≡◌, ◌<◌, ◌∙◌, ◌++◌, ◌∷◌, List, Option, Some, None, option_map, true, false, is_some, sym, ap, ap₂}
 use Rattle.vf_journal.specs.declared.entry.Entry.TheVariants.{Lost}
 use Rattle.vf_records.proofs.RecordLemmas.{ended_lost, made}
 use Rattle.vf_records.proofs.records.Records.lose.Goals as goal

@@ -1,9 +1,8 @@
-use Rattle.std.proofs.Common.{◌≡◌, ◌<◌, ◌∙◌, ◌++◌, ◌∷◌, List, Option, Some, None, option_map, length, true, false, is_some, sym, ap, ap₂}
+use Rattle.std.proofs.Common.{◌≡◌, ◌∙◌, ◌++◌, ◌∷◌, Option, Some, option_map, length, sym, ap, ap₂}
 use Rattle.vf_journal.specs.declared.entry.Entry.TheVariants.{Pages}
 use Rattle.vf_base.specs.declared.run.Outcome.TheVariants as outcomes
 use Rattle.vf_base.specs.declared.run.Outcome.{Outcome}
 use Rattle.vf_jobs.specs.Setup.{Conditions}
-use Rattle.vf_journal.specs.declared.entry.Entry.{Entry}
 use Rattle.vf_journal.specs.declared.entry.Kind.TheVariants as kinds
 use Rattle.vf_journal.specs.declared.entry.Told.TheVariants as told
 use Rattle.vf_journal.specs.Farm.{limits}

@@ -1,5 +1,4 @@
-use Rattle.std.proofs.Common.{◌≡◌, ◌∙◌, List, Option, length, map, sym, ap, ap₂}
-use Rattle.std.specs.Arc.{arc_value}
+use Rattle.std.proofs.Common.{◌∙◌, ap, ap₂}
 use Rattle.vf_journal.specs.Records.{Records}
 use Rattle.vf_jobs.specs.Setup.{Conditions}
 use Rattle.vf_journal.specs.Records.{is_job, state_of}

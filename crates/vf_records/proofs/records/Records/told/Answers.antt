@@ -1,4 +1,4 @@
-use Rattle.std.proofs.Common.{◌≡◌, ◌∙◌, List, Option, length, map, sym, ap, ap₂}
+use Rattle.std.proofs.Common.{◌∙◌, List, map, ap, ap₂}
 use Rattle.std.specs.Arc.{arc_value}
 use Rattle.vf_journal.specs.Records.{Records}
 use Rattle.vf_plan.specs.declared.plan.Node.{Node}

@@ -1,4 +1,4 @@
-use Rattle.std.proofs.Common.{◌≡◌, ◌<◌, ◌∙◌, None, get_or, sym, ap, arith}
+use Rattle.std.proofs.Common.{◌∙◌, None, get_or, sym, ap, arith}
 use Rattle.vf_records.specs.declared.row.Progress.{Progress}
 use Rattle.vf_records.specs.Account.{solo_of, attempt_at}
 use Rattle.vf_records.specs.Tables.{stage_of}

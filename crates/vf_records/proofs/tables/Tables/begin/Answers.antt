@@ -1,5 +1,4 @@
-use Rattle.std.proofs.Common.{◌≡◌, ℕ, ◌<◌, ◌≤◌, ◌+◌, ◌*◌, ◌∙◌, List, [], ◌∷◌, Option, Some, None, length, refl, sym, ap, subst, arith, slice_get, slice_set, get_or, sum_by, vec_capacity, length-append}
-use Rattle.std.proofs.lemmas.Bool.{false≢true}
+use Rattle.std.proofs.Common.{◌≡◌, ℕ, ◌<◌, ◌≤◌, ◌+◌, ◌*◌, ◌∙◌, [], ◌∷◌, Some, length, sym, ap, subst, arith, slice_get, slice_set, get_or, sum_by, length-append}
 use Rattle.std.proofs.lemmas.List.{length-set}
 use Rattle.vf_journal.specs.declared.entry.Entry.TheVariants.{Start}
 use Rattle.vf_journal.specs.Records.{Attempt, running}
@@ -20,6 +19,9 @@ origin-origin-requires-clause-node c =
     let is = ready_job s (solo_of s).counts t kept c.args.job c.requires.ready in
     let placed = placed_job s (solo_of s).counts t kept c.args.job is in
     omega (arith, placed.node, kept.layout.long)
+
+pub attempt_from-attempt-requires : goal.attempt_from-attempt-requires
+attempt_from-attempt-requires c = c.requires.tables.imaged
 
 pub place-place-requires : goal.place-place-requires
 place-place-requires c =
@@ -99,5 +101,7 @@ returns-clause-tables c =
       first = over_run t.progress.items k t.first (rows.Running attempt) (ap (λ n. is_over_progress (get_or t.progress.items n rows.Idle)) same ∙ idle_not_over (get_or t.progress.items p rows.Idle) idle) kept.first;
       counted = kept.counted;
       within = kept.within;
+      imaged = kept.imaged;
+      images = kept.images;
       room = record { most = omega (arith, longer, less, most); journal = omega (arith, room, c.push_reserved.ensures.capacity); held = kept.room.held };
     }

@@ -1,4 +1,4 @@
-use Rattle.std.proofs.Common.{◌≡◌, ◌-◌, ◌+◌, ◌<◌, ◌≤◌, IfSome, length, option_map}
+use Rattle.std.proofs.Common.{◌≡◌, ◌<◌, ◌≤◌, IfSome, length, option_map}
 use Rattle.vf_journal.specs.Journal.{chosen}
 use Rattle.vf_records.specs.Account.{farm_of}
 use Rattle.vf_records.specs.Tables.{held_of, records_of}

@@ -1,7 +1,6 @@
-use Rattle.std.proofs.Common.{◌≡◌, ℕ, ◌<◌, ◌≤◌, ◌+◌, ◌*◌, ◌∙◌, List, [], ◌∷◌, Option, Some, None, length, refl, sym, ap, subst, arith, slice_get, slice_set, sum_by, vec_capacity, length-append}
+use Rattle.std.proofs.Common.{◌≡◌, ℕ, ◌<◌, ◌≤◌, ◌+◌, ◌*◌, ◌∙◌, [], ◌∷◌, Some, length, sym, ap, subst, arith, slice_get, slice_set, sum_by, length-append}
 use Rattle.std.proofs.lemmas.Bool.{false≢true}
 use Rattle.std.proofs.lemmas.List.{length-set}
-use Rattle.vf_journal.specs.declared.entry.Told.{Told}
 use Rattle.vf_records.specs.declared.row.Progress.TheVariants as rows
 use Rattle.vf_records.specs.Account.{solo_of}
 use Rattle.vf_records.specs.Layout.{place_in}
@@ -85,6 +84,8 @@ returns-clause-tables c =
       first = c.over_from-self.ensures;
       counted = kept.counted;
       within = kept.within;
+      imaged = kept.imaged;
+      images = kept.images;
       room = record { most = omega (arith, longer, less, most); journal = omega (arith, room, c.push_reserved.ensures.capacity); held = kept.room.held };
     }
 

@@ -1,4 +1,3 @@
-use Rattle.std.proofs.Common.{◌+◌}
 use Rattle.vf_records.specs.Account.{solo_of}
 use Rattle.vf_records.specs.Spreads.{spread_seen}
 use Rattle.vf_records.proofs.FollowLemmas.{AreCopied}

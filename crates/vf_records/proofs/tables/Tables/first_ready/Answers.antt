@@ -1,8 +1,6 @@
-use Rattle.std.proofs.Common.{◌≡◌, ◌<◌, ◌+◌, ◌∙◌, if◌then◌else◌, List, Some, None, length, slice_get, drop, refl, sym, ap, subst, arith}
+use Rattle.std.proofs.Common.{◌≡◌, ◌<◌, ◌+◌, ◌∙◌, if◌then◌else◌, Some, length, slice_get, drop, refl, sym, ap, arith}
 use Rattle.std.specs.List.{find}
 use Rattle.std.proofs.lemmas.Option.{slice_get_read}
-use Rattle.vf_base.specs.declared.names.Job.{Job}
-use Rattle.vf_jobs.specs.Jobs as jobs
 use Rattle.vf_journal.specs.Records.{is_ready}
 use Rattle.vf_records.specs.Account.{farm_of, solo_of}
 use Rattle.vf_records.specs.Tables.{records_of}

@@ -1,15 +1,23 @@
-use Rattle.std.proofs.Common.{◌≡◌, ◌<◌, ◌≤◌, ◌+◌, ◌*◌, ◌∙◌, ◌==◌, not, List, [], ◌∷◌, length, map, refl, sym, ap, subst, arith, sum_by, vec_capacity, length-append}
+use Rattle.std.proofs.Common.{◌≡◌, ◌<◌, ◌≤◌, ◌+◌, ◌*◌, ◌∙◌, ◌==◌, not, None, List, [], ◌∷◌, length, map, refl, sym, ap, subst, arith, sum_by, vec_capacity, length-append}
 use Rattle.std.specs.List.{filter, All}
+use Rattle.std.proofs.lemmas.List.{length-set}
 use Rattle.std.proofs.lemmas.List.Elements.{All-filter}
-use Rattle.vf_journal.specs.Records.{Held, Records}
-use Rattle.vf_journal.specs.Effects.{without_image}
+use Rattle.vf_journal.specs.Records.{Held}
 use Rattle.vf_records.specs.declared.row.HeldImage.{HeldImage}
 use Rattle.vf_records.specs.declared.tables.Tables.{Tables}
 use Rattle.vf_records.specs.Account.{solo_of}
-use Rattle.vf_records.specs.Tables.{held_of, to_come, records_of, AreTables}
+use Rattle.vf_records.specs.Tables.{held_of, to_come, records_of, AreTables, AreImaged}
 use Rattle.vf_records.proofs.RetireLemmas.{map_filter}
 use Rattle.vf_records.proofs.FollowLemmas.{fewer}
+use Rattle.vf_records.proofs.ImageTable.{imaged_less, within_found}
 use Rattle.vf_records.proofs.tables.Tables.give_back.Goals as goal
+
+pub release-requires : goal.release-requires
+release-requires c =
+    let kept = c.requires.tables in
+    let images = kept.images in
+    let less = within_found c.args.self.now.held.items (length c.args.setup.now.plan) c.args.node.0 kept.within c.requires.image in
+    omega (arith, images, less)
 
 pub returns-clause-records : goal.returns-clause-records
 returns-clause-records c =
@@ -34,7 +42,7 @@ returns-clause-tables c =
     let most : length t.journal.items + sum_by to_come t.progress.items + length t.held.items ≤ 3 * length t.layout.jobs.items = kept.room.most in
     let wide = kept.room.journal in
     let wide_held = kept.room.held in
-    subst (λ (y : Tables). AreTables s.plan (solo_of s).counts (record y { held = x.held; journal = c.push_reserved.new.self })) (sym c.release.ensures.rest)
+    subst (λ (y : Tables). AreTables s.plan (solo_of s).counts (record y { held = x.held; images = x.images; journal = c.push_reserved.new.self })) (sym c.release.ensures.rest)
     (record {
       layout = kept.layout;
       progress = kept.progress;
@@ -44,6 +52,11 @@ returns-clause-tables c =
       first = kept.first;
       counted = subst (All (λ (h : HeldImage). h.counts ≡ (solo_of s).counts (held_of h))) (sym c.release.ensures.held) (All-filter stays (λ (h : HeldImage). h.counts ≡ (solo_of s).counts (held_of h)) t.held.items kept.counted);
       within = subst (All (λ (h : HeldImage). h.node.0 < length s.plan)) (sym c.release.ensures.held) (All-filter stays (λ (h : HeldImage). h.node.0 < length s.plan) t.held.items kept.within);
+      imaged = subst (λ (hs : List HeldImage). AreImaged hs x.images.items) (sym c.release.ensures.held)
+          (subst (AreImaged (filter stays t.held.items)) (sym c.release.ensures.images)
+          (imaged_less t.held.items t.images.items c.args.node kept.imaged
+          (let images = kept.images in let inside = within_found t.held.items (length s.plan) c.args.node.0 kept.within c.requires.image in omega (arith, images, inside))));
+      images = ap length c.release.ensures.images ∙ length-set t.images.items c.args.node.0 None ∙ kept.images;
       room = record {
         most = omega (arith, less, left, old, longer, most);
         journal = omega (arith, room, wide, c.push_reserved.ensures.capacity);

@@ -1,12 +1,10 @@
-use Rattle.std.proofs.Common.{◌≡◌, ◌∙◌, true, false, ◌&&◌, not, List, Some, length, slice_get, unwrap_or, refl, sym, ap, ap₂}
+use Rattle.std.proofs.Common.{◌≡◌, ◌∙◌, true, false, ◌&&◌, not, Some, length, slice_get, unwrap_or, refl, sym, ap, ap₂}
 use Rattle.std.proofs.lemmas.Option.{slice_get_read}
-use Rattle.vf_base.specs.declared.names.Job.{Job}
-use Rattle.vf_base.specs.declared.run.Limits.{Limits}
 use Rattle.vf_jobs.specs.Jobs.{node_of}
 use Rattle.vf_jobs.specs.Limits.{limits_of}
 use Rattle.vf_jobs.specs.Setup.{Conditions}
 use Rattle.vf_jobs.specs.Subtree.{is_below}
-use Rattle.vf_journal.specs.Records.{is_job, is_over}
+use Rattle.vf_journal.specs.Records.{is_over}
 use Rattle.vf_records.specs.Account.{solo_of}
 use Rattle.vf_records.specs.Spreads.{fits_with}
 use Rattle.vf_records.specs.Tables.{records_of}

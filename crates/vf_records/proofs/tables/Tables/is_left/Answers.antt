@@ -1,4 +1,4 @@
-use Rattle.std.proofs.Common.{◌≡◌, ◌<◌, ◌+◌, ◌∙◌, ◌||◌, not, List, Some, length, slice_get, drop, refl, sym, ap, arith}
+use Rattle.std.proofs.Common.{◌<◌, ◌+◌, ◌∙◌, ◌||◌, not, length, drop, sym, ap, arith}
 use Rattle.std.specs.List.{list_any}
 use Rattle.vf_journal.specs.Records.{is_over}
 use Rattle.vf_records.specs.Account.{solo_of}

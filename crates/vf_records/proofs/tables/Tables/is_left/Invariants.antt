@@ -1,4 +1,4 @@
-use Rattle.std.proofs.Common.{◌≡◌, ◌+◌, not, drop}
+use Rattle.std.proofs.Common.{◌≡◌, not, drop}
 use Rattle.std.specs.List.{list_any}
 use Rattle.vf_journal.specs.Records.{is_over}
 use Rattle.vf_records.specs.Tables.{records_of}

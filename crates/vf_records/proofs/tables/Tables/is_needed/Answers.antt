@@ -1,4 +1,4 @@
-use Rattle.std.proofs.Common.{◌≡◌, ◌<◌, ◌+◌, ◌∙◌, ◌&&◌, ◌||◌, not, Bool, List, Some, length, slice_get, drop, refl, sym, ap, arith}
+use Rattle.std.proofs.Common.{◌<◌, ◌+◌, ◌∙◌, ◌&&◌, ◌||◌, not, Bool, length, drop, sym, ap, arith}
 use Rattle.std.specs.List.{list_any}
 use Rattle.vf_base.specs.declared.names.Job.{Job}
 use Rattle.vf_jobs.specs.Jobs.{node_of}

@@ -1,4 +1,4 @@
-use Rattle.std.proofs.Common.{◌≡◌, ◌+◌, ◌&&◌, not, drop}
+use Rattle.std.proofs.Common.{◌≡◌, ◌&&◌, not, drop}
 use Rattle.std.specs.List.{list_any}
 use Rattle.vf_jobs.specs.Jobs.{node_of}
 use Rattle.vf_jobs.specs.Subtree.{is_below}

@@ -1,6 +1,6 @@
-use Rattle.std.proofs.Common.{◌≡◌, ◌<◌, ◌≤◌, ◌+◌, ◌*◌, ◌∙◌, List, [], ◌∷◌, ◌++◌, None, length, map, refl, sym, ap, ap₂, subst, arith, sum_by, vec_capacity, append_assoc, length-append}
-use Rattle.std.specs.List.{All}
-use Rattle.std.proofs.lemmas.List.{map-append}
+use Rattle.std.proofs.Common.{◌≡◌, ◌<◌, ◌≤◌, ◌+◌, ◌*◌, ◌∙◌, List, [], ◌∷◌, ◌++◌, Some, None, ◌==◌, length, map, sym, ap, ap₂, subst, arith, sum_by, append_assoc, length-append}
+use Rattle.std.specs.List.{All, find}
+use Rattle.std.proofs.lemmas.List.{map-append, length-set}
 use Rattle.std.proofs.lemmas.List.Elements.{All-push}
 use Rattle.vf_base.specs.declared.names.Job.TheVariants.{Reach}
 use Rattle.vf_journal.specs.declared.entry.Entry.{Entry}
@@ -11,9 +11,18 @@ use Rattle.vf_journal.specs.Effects.{with_over, retirings, without_unneeded}
 use Rattle.vf_records.specs.declared.layout.Layout.{Layout}
 use Rattle.vf_records.specs.declared.row.HeldImage.{HeldImage}
 use Rattle.vf_records.specs.Account.{farm_of, solo_of}
-use Rattle.vf_records.specs.Tables.{held_of, to_come, records_of}
+use Rattle.vf_records.specs.Tables.{held_of, to_come, records_of, AreImaged}
 use Rattle.vf_records.proofs.EventLemmas.{placed_job}
+use Rattle.vf_records.proofs.ImageTable.{imaged_more, none_rows}
 use Rattle.vf_records.proofs.tables.Tables.keep.Goals as goal
+
+pub show-requires : goal.show-requires
+show-requires c =
+    let placed = placed_job c.args.setup.now (solo_of c.args.setup.now).counts c.args.self.now c.requires.tables (Reach c.args.image.node) c.requires.job in
+    let node = placed.node in
+    let long = c.requires.tables.layout.long in
+    let images = c.close.ensures.tables.images in
+    omega (arith, node, long, images)
 
 pub retire-requires : goal.retire-requires
 retire-requires c =
@@ -39,6 +48,11 @@ retire-requires c =
       first = kept.first;
       counted = subst (All (λ (h : HeldImage). h.counts ≡ (solo_of s).counts (held_of h))) (sym c.push_reserved.ensures.items) (All-push (λ (h : HeldImage). h.counts ≡ (solo_of s).counts (held_of h)) x.held.items image kept.counted c.requires.counts);
       within = subst (All (λ (h : HeldImage). h.node.0 < length s.plan)) (sym c.push_reserved.ensures.items) (All-push (λ (h : HeldImage). h.node.0 < length s.plan) x.held.items image kept.within (omega (arith, node, long)));
+      imaged = subst (λ (hs : List HeldImage). AreImaged hs c.show.new.images.items) (sym c.push_reserved.ensures.items)
+          (subst (AreImaged (x.held.items ++ image ∷ [])) (sym c.show.ensures)
+          (imaged_more x.held.items x.images.items image kept.imaged (omega (arith, node, long, kept.images))
+          (none_rows x.held.items image.node.0 (ap (λ (r : Records). find (λ (h : Held). h.node.0 == image.node.0) r.held) c.close.ensures.records ∙ c.requires.free))));
+      images = ap length c.show.ensures ∙ length-set x.images.items image.node.0 (Some image) ∙ kept.images;
       room = record {
         most = omega (arith, slack, most, longer, same);
         journal = kept.room.journal;

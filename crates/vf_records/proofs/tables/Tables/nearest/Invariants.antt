@@ -1,5 +1,4 @@
-use Rattle.std.proofs.Common.{◌≡◌, ◌+◌, ℕ, ◌<◌, Option, Some, None, IfSome, length, option_map}
-use Rattle.vf_base.specs.declared.names.NodeNo.{NodeNo}
+use Rattle.std.proofs.Common.{◌≡◌, ◌<◌, IfSome, length, option_map}
 use Rattle.vf_jobs.specs.Jobs.{first_fitting, node_no}
 use Rattle.vf_journal.specs.Records.{image_of}
 use Rattle.vf_records.specs.Account.{solo_of}

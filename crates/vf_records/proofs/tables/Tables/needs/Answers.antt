@@ -1,12 +1,9 @@
-use Rattle.std.proofs.Common.{◌≡◌, ◌∙◌, true, false, Bool, ◌&&◌, not, List, Some, length, slice_get, unwrap_or, refl, sym, ap, ap₂}
+use Rattle.std.proofs.Common.{◌≡◌, ◌∙◌, true, false, Bool, ◌&&◌, not, Some, length, slice_get, unwrap_or, refl, sym, ap}
 use Rattle.std.proofs.lemmas.Option.{slice_get_read}
-use Rattle.vf_base.specs.declared.names.Job.{Job}
 use Rattle.vf_jobs.specs.Jobs.{node_of}
 use Rattle.vf_jobs.specs.Setup.{Conditions}
 use Rattle.vf_jobs.specs.Subtree.{is_below}
-use Rattle.vf_journal.specs.Records.{is_over}
 use Rattle.vf_records.specs.Account.{solo_of}
-use Rattle.vf_records.specs.Tables.{records_of}
 use Rattle.vf_records.proofs.CopyLemmas.{and_false}
 use Rattle.vf_records.proofs.ReadyLemmas.{over_at}
 use Rattle.vf_records.proofs.tables.Tables.needs.Goals as goal

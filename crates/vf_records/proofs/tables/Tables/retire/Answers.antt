@@ -1,7 +1,5 @@
-use Rattle.std.proofs.Common.{◌≡◌, ℕ, ◌<◌, ◌≤◌, ◌+◌, ◌-◌, ◌∙◌, List, length, refl, sym, ap, subst, arith}
-use Rattle.vf_plan.specs.declared.plan.Node.{Node}
+use Rattle.std.proofs.Common.{◌≡◌, ℕ, ◌+◌, ◌-◌, ◌∙◌, length, sym, ap, subst, arith}
 use Rattle.vf_jobs.specs.Setup.{Conditions}
-use Rattle.vf_records.specs.declared.tables.Tables.{Tables}
 use Rattle.vf_records.specs.Account.{solo_of}
 use Rattle.vf_records.proofs.FollowLemmas.{AreRetired, retired_first, retired_next, retired_past, retired_records, retired_journal}
 use Rattle.vf_records.proofs.tables.Tables.retire.Goals as goal

@@ -1,4 +1,3 @@
-use Rattle.std.proofs.Common.{◌-◌, ◌+◌}
 use Rattle.vf_records.specs.Account.{solo_of}
 use Rattle.vf_records.proofs.FollowLemmas.{AreRetired}
 use Rattle.vf_records.proofs.tables.Tables.retire.Given as goal

@@ -1,4 +1,4 @@
-use Rattle.std.proofs.Common.{◌≡◌, ◌<◌, ◌∙◌, Some, None, length, slice_get, get_or, sym, ap, ap₂, arith}
+use Rattle.std.proofs.Common.{◌≡◌, ◌∙◌, Some, None, slice_get, get_or, sym, ap, arith}
 use Rattle.std.proofs.lemmas.Option.{slice_get_within}
 use Rattle.vf_journal.specs.Records.{state_at, idle_state, is_ready}
 use Rattle.vf_records.specs.declared.row.Progress.{Progress}
