@@ -1,0 +1,5 @@
+pub mod Counting
+mod Shorter
+mod Sound
+mod Complete
+pub mod Wholes
