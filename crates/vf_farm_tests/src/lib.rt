@@ -1,10 +1,12 @@
-//! Tests of the public calls of the farm's crates: vf_plan, vf_jobs, vf_image and vf_run. It has no code of its
-//! own, so that the crates that it tests are proved once.
+//! Tests of the public calls of the farm's crates: vf_plan, vf_jobs, vf_records, vf_image and vf_run. It has no
+//! code of its own, so that the crates that it tests are proved once.
 #![tactic(auto)]
 
 #[cfg(test)]
 mod limits;
 #[cfg(test)]
 mod plans;
+#[cfg(test)]
+mod records;
 #[cfg(test)]
 mod runs;

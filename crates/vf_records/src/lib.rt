@@ -10,6 +10,7 @@ mod events;
 mod evict;
 mod layout;
 mod next;
+mod outcome;
 mod ready;
 mod records;
 mod row;

@@ -3,7 +3,7 @@ ghost use Rattle.std.specs.Arc.{arc_value};
 ghost use Rattle.vf_jobs.specs.Jobs as jobs;
 ghost use Rattle.vf_jobs.specs.Jobs.{node_of};
 ghost use Rattle.vf_jobs.specs.Setup.{IsSetup};
-ghost use Rattle.vf_journal.specs.Records.{is_job, state_of, told_by, image_of};
+ghost use Rattle.vf_journal.specs.Records.{is_job, state_of, told_by, outcome_told, image_of};
 ghost use Rattle.vf_journal.specs.Effects.{origin_of};
 ghost use Rattle.vf_journal.specs.Journal.{first_ready, next_evicted, base_for};
 ghost use Rattle.vf_records.specs.Tables.{held_of, attempt_of};
@@ -105,6 +105,14 @@ impl Records {
         ensures { result.now ≡ map (λ job. told_by ((records_in self.now).stages job)) (jobs.jobs self.now.setup.plan) }
     {
         &self.tables.told
+    }
+
+    /// The outcome that is told of a job: that of its own run, or of the run whose outcome it has. None is
+    /// told of a job that is not over, that was lost, or that reached its node's save point or passed it.
+    pub fn outcome(&self, job: Job) -> Option<&Outcome>
+        ensures { option_map (λ outcome. outcome.now) result ≡ outcome_told (records_in self.now) job }
+    {
+        self.tables.outcome(&self.setup, job)
     }
 
     /// The images that are held, in the order in which they were saved.

@@ -1,18 +1,18 @@
-ghost use Rattle.std.specs.Prelude.{◌≡◌, ◌<◌, length, IfSome};
+ghost use Rattle.std.specs.Prelude.{◌≡◌};
 ghost use Rattle.vf_records.specs.Account.{solo_of};
 ghost use Rattle.vf_records.specs.Tables.{AreTables};
 
 use crate::evict::earlier;
 use crate::spread::{Reached, spread_of};
 use crate::tables::Tables;
-use crate::{HeldImage, Next, Records};
+use crate::{HeldImage, Next};
 use std::alloc::{AllocError, Global};
 use std::sync::Arc;
 use std::test::Fail;
 use vf_base::{Header, Job, Limits, NodeNo, Text};
 use vf_design::{Design, Instr};
 use vf_jobs::{Order, Setup};
-use vf_journal::{Entry, JobState, Kind, Told};
+use vf_journal::{Entry, Kind, Told};
 use vf_plan::read_plan;
 
 fn text(alloc: Global, bytes: &[u8]) -> Result<Text, AllocError> {
@@ -75,7 +75,6 @@ fn end_next(tables: &mut Tables, setup: &Setup, turns: u64) -> Option<Job>
 fn an_ending_is_copied_to_the_jobs_that_it_fits(rt: HostRuntime) -> Result<(), Fail> {
     let alloc = rt.alloc();
     let (r, x, y) = (NodeNo(0), NodeNo(1), NodeNo(2));
-
     let both = setup(alloc, ALIKE, Order::Oldest)?;
     let mut tables = Tables::new(alloc, &both)?;
     assert_eq!(rt; end_next(&mut tables, &both, 7), Some(Job::Reach(r)));
@@ -104,74 +103,6 @@ fn an_ending_is_copied_to_the_jobs_that_it_fits(rt: HostRuntime) -> Result<(), F
             job: Job::Finish(y),
             turn: 5
         }
-    );
-    Ok(())
-}
-
-// The next job is lost before it starts.
-fn lose_next(records: &mut Records) -> Option<Job> {
-    let Next::Job(job) = records.next_job() else {
-        return None;
-    };
-    records.lose(job, 0);
-    Some(job)
-}
-
-#[test]
-fn jobs_become_ready_in_their_order(rt: HostRuntime) -> Result<(), Fail> {
-    let alloc = rt.alloc();
-    let setup = setup(alloc, DEEP, Order::Oldest)?;
-    let mut records = Records::new(alloc, &setup)?;
-    let (r, m, x, y) = (NodeNo(0), NodeNo(1), NodeNo(2), NodeNo(3));
-    let jobs = [Job::Reach(r), Job::Reach(m), Job::Finish(x), Job::Finish(y)];
-    assert_eq!(rt; records.jobs(), jobs.as_slice());
-    for job in jobs {
-        assert_eq!(rt; lose_next(&mut records), Some(job));
-    }
-    assert_eq!(rt; records.next_job(), Next::Done);
-    assert_eq!(rt;
-        records.kinds(),
-        [Kind::Lost, Kind::Lost, Kind::Unknown, Kind::Unknown].as_slice()
-    );
-    assert_eq!(rt; records.journal().len(), 4);
-    assert_eq!(rt;
-        records.journal()[3],
-        Entry::Lost {
-            job: Job::Finish(y),
-            turn: 0
-        }
-    );
-    assert_eq!(rt; records.told().len(), 4);
-    assert_eq!(rt; records.held().len(), 0);
-    assert_eq!(rt; records.choose_evicted(), None);
-    Ok(())
-}
-
-// Starts the next job, and tells at which turn its attempt started.
-fn start_next(records: &mut Records) -> Option<(Job, Option<NodeNo>, u64)> {
-    let Next::Job(job) = records.next_job() else {
-        return None;
-    };
-    let origin = records.start(job);
-    let attempt = records.attempt(job);
-    Some((job, origin, attempt?.since))
-}
-
-#[test]
-fn a_job_that_runs_is_not_next(rt: HostRuntime) -> Result<(), Fail> {
-    let alloc = rt.alloc();
-    let setup = setup(alloc, ALIKE, Order::Oldest)?;
-    let mut records = Records::new(alloc, &setup)?;
-    assert_eq!(rt;
-        start_next(&mut records),
-        Some((Job::Reach(NodeNo(0)), None, 0))
-    );
-    assert_eq!(rt; records.image(NodeNo(0)), None);
-    assert_eq!(rt; records.next_job(), Next::Later);
-    assert_eq!(rt; records.journal().len(), 1);
-    assert_eq!(rt;
-        records.journal()[0],
-        Entry::Start(Job::Reach(NodeNo(0)), None)
     );
     Ok(())
 }

@@ -1,8 +1,8 @@
 use Rattle.std.proofs.Common.{◌∙◌, sym, ap}
 use Rattle.vf_journal.specs.Records.{is_job}
 use Rattle.vf_records.specs.Account.{Account}
-use Rattle.vf_records.proofs.ReadyLemmas.{next_ready, next_planned}
-use Rattle.vf_records.proofs.tests.start_next.Goals as goal
+use Rattle.vf_records.proofs.CallerLemmas.{next_ready, next_planned}
+use Rattle.vf_farm_tests.proofs.records.start_next.Goals as goal
 
 pub start-origin-requires : goal.start-origin-requires
 start-origin-requires c = next_ready c.args.records.now c.in-Job.job (sym c.next_job.ensures ∙ c.in-Job.is)

@@ -2,8 +2,8 @@ use Rattle.std.proofs.Common.{◌∙◌, sym}
 use Rattle.std.proofs.lemmas.Bool.{or_right}
 use Rattle.vf_journal.specs.Records.{is_ready, is_running}
 use Rattle.vf_records.specs.Account.{farm_of, records_in}
-use Rattle.vf_records.proofs.ReadyLemmas.{ready_next, idle_ready, given_up_idle}
-use Rattle.vf_records.proofs.tests.lose_next.Goals as goal
+use Rattle.vf_records.proofs.CallerLemmas.{ready_next, idle_ready, given_up_idle}
+use Rattle.vf_farm_tests.proofs.records.lose_next.Goals as goal
 
 pub lose-requires : goal.lose-requires
 lose-requires c =
