@@ -3,3 +3,4 @@ mod LineLemmas
 mod DifferenceLemmas
 mod SummaryLemmas
 mod JournalLemmas
+mod FarmLemmas

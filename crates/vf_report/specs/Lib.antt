@@ -1,5 +1,6 @@
 pub mod Tested
 pub mod Totals
 pub mod Texts
+pub mod Report
 pub mod Journal
 pub mod Laws
