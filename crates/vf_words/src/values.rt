@@ -1,11 +1,12 @@
 //! The values of the options, in their ranges.
 
-ghost use Rattle.std.specs.Prelude.{◌≡◌, ◌≢◌, ◌++◌, ◌≤◌, true, codes, is_some, IfOk, IfSome, map, option_map};
+ghost use Rattle.std.specs.Prelude.{◌≡◌, ◌≢◌, ◌++◌, ◌≤◌, codes, IfOk, IfSome, IsUtf8, map, option_map};
 ghost use Rattle.clap.specs.Matches.{found_of};
 ghost use Rattle.clap.specs.Walk.{first_of, rows_of};
 ghost use Rattle.vf_words.specs.declared.fault.WordFault.TheVariants as faults;
 ghost use Rattle.vf_words.specs.Answers.{Gives};
 ghost use Rattle.vf_words.specs.Options.{files_of};
+ghost use Rattle.vf_words.specs.Ranges.{AreNamed};
 ghost use Rattle.vf_words.specs.Words.{outside, mode_named, order_named, within, decimal_in, mode_at, order_at, number_at, no_files, two_files, files_in, one_test, no_test, test_in};
 
 use crate::limits::Numbers;
@@ -138,7 +139,8 @@ pub fn number_at(
 
 /// The text in memory of its own.
 fn owned(alloc: Global, text: &str) -> Result<Text, Memory>
-    ensures { IfOk result (λ copy. copy ≡ text.now) }
+    ensures same { IfOk result (λ copy. copy ≡ text.now) }
+    ensures utf8 { IfOk result (λ copy. IsUtf8 copy) }
 {
     Ok(Text::new(Vec::from_slice(alloc, text.as_bytes())?))
 }
@@ -164,7 +166,7 @@ pub fn files_at(
     matches: &ArgMatches<'_>,
 ) -> Result<Option<(Text, Text)>, WordFault>
     ensures files { Gives result (files_in mode (files_of (rows_of (found_of matches.now)))) }
-    ensures named { mode ≢ Mode.Make → IfOk result (λ files. is_some files ≡ true) }
+    ensures named { mode ≢ Mode.Make → IfOk result AreNamed }
 {
     let files = matches.get_strs("files").unwrap_or(&[]);
     files_in(alloc, mode, files)
@@ -172,7 +174,7 @@ pub fn files_at(
 
 fn files_in(alloc: Global, mode: Mode, files: &[&str]) -> Result<Option<(Text, Text)>, WordFault>
     ensures files { Gives result (files_in mode (map (λ name. name.now) files.now)) }
-    ensures named { mode ≢ Mode.Make → IfOk result (λ files. is_some files ≡ true) }
+    ensures named { mode ≢ Mode.Make → IfOk result AreNamed }
 {
     match mode {
         Mode::Make => no_files(files),
@@ -193,7 +195,7 @@ fn no_files(files: &[&str]) -> Result<Option<(Text, Text)>, WordFault>
 
 fn two_files(alloc: Global, files: &[&str]) -> Result<Option<(Text, Text)>, WordFault>
     ensures files { Gives result (two_files (map (λ name. name.now) files.now)) }
-    ensures named { IfOk result (λ files. is_some files ≡ true) }
+    ensures named { IfOk result AreNamed }
 {
     match files {
         [design, plan] => Ok(Some((owned(alloc, design)?, owned(alloc, plan)?))),
