@@ -50,7 +50,8 @@ module _ (a : Account) (images : List (Option Checkpoint)) (book : IsBook (made_
     pub base_there_for : HasBaseOf images s base
     base_there_for = has_base_for a images book kept s node kind base runs reach base_is
 
-    module _ (asked : s.saved ≡ Some kind) (within : IsWithin s) (i : Checkpoint) (as_kept : IsKeptAs s base i) (pages : ℕ) (own : IsOwnCount i i.base pages) (count : pages ≡ length i.pages.pages) where
+    module _ (asked : s.saved ≡ Some kind) (within : IsWithin s) (i : Checkpoint) (as_kept : IsKeptAs s base i) (pages : ℕ) (own : IsOwnCount i i.base pages) (count : pages ≡ length i.pages.pages)
+        (framed : length i.pages.holder.frames ≡ pages) where
       image_node : i.node ≡ node
       image_node = ap node_no as_kept.node ∙ sym node_same
 
@@ -70,6 +71,7 @@ module _ (a : Account) (images : List (Option Checkpoint)) (book : IsBook (made_
         turn = ap (λ (h : Header). h.turns) (as_kept.header ∙ sym header_is);
         base = as_kept.based;
         pages = sym count;
+        frames = framed;
       }
 
       module _ (b : Account) (made : Appends (Saved node header.turns pages base) a b) where

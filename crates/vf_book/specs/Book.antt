@@ -31,13 +31,14 @@ holders (Some i ∷ more) = i.pages.holder ∷ holders more
 
 -- ---- the images are those that the records hold
 
--- the image is the one that the records hold
+-- the image is the one that the records hold, and has a frame for each of its own pages
 pub record IsHeldAs (c : Conditions) (i : Checkpoint) (h : Held) : Type 0 where
   pub setup : i.setup ≡ c
   pub node : i.node ≡ h.node
   pub turn : i.header.turns ≡ h.turn
   pub base : i.base ≡ h.base
   pub pages : length i.pages.pages ≡ h.pages
+  pub frames : length i.pages.holder.frames ≡ h.pages
 
 -- an image is there exactly where the records hold one
 abbrev pub Fits : Conditions → Option Checkpoint → Option Held → Type 0

@@ -176,6 +176,7 @@ pub fn go<F: Frames, L: Ledger>(
     ensures forward { sim.old.header.turns ≤ sim.new.header.turns }
     ensures token { TokenAt result sim.old.pages.holder sim.new.pages.holder }
     ensures steps { steps.new.count + sim.old.header.turns ≡ steps.old.count + turns_made sim.new result }
+    ensures within { turns_made sim.new result ≤ (limits_for sim.old.setup sim.old.job).turns }
     ensures parts { steps.new.parts ≡ steps.old.parts }
     ensures kept { Keeps (F.numbers pool.old) (sim.old.pages.holder ∷ []) (F.numbers pool.new) (sim.new.pages.holder ∷ []) }
     ensures pool { SamePool (F.name pool.old) (F.numbers pool.old) (F.name pool.new) (F.numbers pool.new) }

@@ -63,3 +63,8 @@ turns-preserved g c =
       kept = keeps-then _ _ _ _ _ _ c.turns.invariant.kept on.kept;
       pool = pool-then _ _ _ _ _ _ c.turns.invariant.pool on.pool;
     }
+
+pub returns-in-Some-clause-within : goal.returns-in-Some-clause-within
+returns-in-Some-clause-within g c =
+    let same = ap₂ (λ s j. (limits_for s j).turns) c.turns.invariant.setup c.turns.invariant.job in
+    omega (arith, c.in-Some.ensures.within, same)

@@ -39,7 +39,7 @@ save-requires-clause-lawful g c = may_save c.self.inside.records c.self.inside.i
     c.stand-job.result.0 c.stand-job.result.1 c.stand-job.ensures.job c.stand-job.ensures.header c.node_of-node.result c.node_of-node.ensures c.requires.at_save
     c.args.kind c.base_for-base.result c.base_for-base.ensures c.requires.kind
     (within_budget (g.F.Frames.name c.args.pool.now) c.args.self.now (g.F.Frames.seen c.args.hand.now) c.args.sim c.requires.pool c.requires.open c.requires.sim.name c.stand-job.ensures.within)
-    c.keep-image.result c.keep-image.ensures.image c.own_pages.result c.own_pages.ensures.own c.own_pages.ensures.count
+    c.keep-image.result c.keep-image.ensures.image c.own_pages.result c.own_pages.ensures.own c.own_pages.ensures.count c.own_pages.ensures.frames
 
 pub save-requires-clause-counts : goal.save-requires-clause-counts
 save-requires-clause-counts g c = counts_saved c.self.inside.records c.self.inside.images.items c.self.invariant c.known.ensures c.args.sim
@@ -47,7 +47,7 @@ save-requires-clause-counts g c = counts_saved c.self.inside.records c.self.insi
     c.stand-job.result.0 c.stand-job.result.1 c.stand-job.ensures.job c.stand-job.ensures.header c.node_of-node.result c.node_of-node.ensures c.requires.at_save
     c.args.kind c.base_for-base.result c.base_for-base.ensures c.requires.kind
     (within_budget (g.F.Frames.name c.args.pool.now) c.args.self.now (g.F.Frames.seen c.args.hand.now) c.args.sim c.requires.pool c.requires.open c.requires.sim.name c.stand-job.ensures.within)
-    c.keep-image.result c.keep-image.ensures.image c.own_pages.result c.own_pages.ensures.own c.own_pages.ensures.count
+    c.keep-image.result c.keep-image.ensures.image c.own_pages.result c.own_pages.ensures.own c.own_pages.ensures.count c.own_pages.ensures.frames
 
 pub release_unheld-requires-clause-covers : goal.release_unheld-requires-clause-covers
 release_unheld-requires-clause-covers g c =
@@ -57,7 +57,7 @@ release_unheld-requires-clause-covers g c =
     c.stand-job.result.0 c.stand-job.result.1 c.stand-job.ensures.job c.stand-job.ensures.header c.node_of-node.result c.node_of-node.ensures c.requires.at_save
     c.args.kind c.base_for-base.result c.base_for-base.ensures c.requires.kind
     (within_budget (g.F.Frames.name c.args.pool.now) c.args.self.now (g.F.Frames.seen c.args.hand.now) c.args.sim c.requires.pool c.requires.open c.requires.sim.name c.stand-job.ensures.within)
-    c.keep-image.result c.keep-image.ensures.image c.own_pages.result c.own_pages.ensures.own c.own_pages.ensures.count
+    c.keep-image.result c.keep-image.ensures.image c.own_pages.result c.own_pages.ensures.own c.own_pages.ensures.count c.own_pages.ensures.frames
     c.save.new.self record { account = c.save.ensures.journal; records = c.save.ensures.records })
 
 pub release_unheld-requires-clause-images : goal.release_unheld-requires-clause-images
@@ -80,7 +80,7 @@ returns-clause-entry g c =
     c.stand-job.result.0 c.stand-job.result.1 c.stand-job.ensures.job c.stand-job.ensures.header c.node_of-node.result c.node_of-node.ensures c.requires.at_save
     c.args.kind c.base_for-base.result c.base_for-base.ensures c.requires.kind
     (within_budget (g.F.Frames.name c.args.pool.now) c.args.self.now (g.F.Frames.seen c.args.hand.now) c.args.sim c.requires.pool c.requires.open c.requires.sim.name c.stand-job.ensures.within)
-    c.keep-image.result c.keep-image.ensures.image c.own_pages.result c.own_pages.ensures.own c.own_pages.ensures.count
+    c.keep-image.result c.keep-image.ensures.image c.own_pages.result c.own_pages.ensures.own c.own_pages.ensures.count c.own_pages.ensures.frames
     c.save.new.self record { account = c.save.ensures.journal; records = c.save.ensures.records })
 
 pub returns-clause-pool : goal.returns-clause-pool
