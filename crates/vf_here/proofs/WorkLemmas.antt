@@ -1,5 +1,5 @@
 -- One worker's state from call to call.
-use Rattle.std.proofs.Common.{◌≡◌, ℕ, zero, suc, ◌+◌, ◌*◌, ◌-◌, ◌<◌, ◌≤◌, ◌==◌, ◌||◌, ◌&&◌, ◌^◌, Bool, true, false, not, if◌then◌else◌, List, [], ◌∷◌, ◌++◌, length, Option, Some, None, is_some, option_map, refl, sym, ap, ◌∙◌, arith, subst, sum_by, length-append}
+use Rattle.std.proofs.Common.{◌≡◌, ℕ, suc, ◌+◌, ◌*◌, ◌<◌, ◌≤◌, ◌&&◌, Bool, true, false, not, if◌then◌else◌, List, [], ◌∷◌, ◌++◌, length, Option, Some, None, is_some, option_map, refl, sym, ap, ◌∙◌, arith, subst, sum_by, length-append}
 use Rattle.std.specs.List.{filter}
 use Rattle.std.proofs.lemmas.Bool.{eqb-true, false≢true, or_left, or_right, and_parts}
 use Rattle.vf_base.specs.Count.{Count}
@@ -8,7 +8,6 @@ use Rattle.vf_base.specs.declared.names.Job.TheVariants.{Reach, Finish}
 use Rattle.vf_base.specs.declared.names.NodeNo.{NodeNo}
 use Rattle.vf_base.specs.declared.run.Ending.{Ending}
 use Rattle.vf_base.specs.declared.run.Header.{Header}
-use Rattle.vf_base.specs.declared.run.SaveKind.{SaveKind}
 use Rattle.vf_machine.specs.Run.{is_ending}
 use Rattle.vf_machine.proofs.CallerLemmas.{counts_once}
 use Rattle.vf_design.specs.Words.{machine_of}
@@ -26,23 +25,22 @@ use Rattle.vf_journal.specs.declared.entry.Entry.{Entry}
 use Rattle.vf_journal.specs.declared.entry.Entry.TheVariants.{Start, Saved, Pass, End, Pages, Copy, Lost, Short, Evict, Retire, Rest}
 use Rattle.vf_journal.specs.Farm.{Farm}
 use Rattle.vf_journal.specs.Records.{Held, Attempt, Records, Stage, idle, running, deferred, over, at_first, image_of, is_idle, is_job, is_known, is_over, is_ready, is_running, same_job}
-use Rattle.vf_journal.specs.Effects.{Guard, IsAlone, IsRunning, after, started_from, without_image, consequences}
+use Rattle.vf_journal.specs.Effects.{IsAlone, IsRunning, after, started_from, consequences}
 use Rattle.vf_journal.specs.Holding.{NoneRuns, ended_job, jobs_left}
-use Rattle.vf_journal.specs.Journal.{ordered, replay, turns_from, turns_since, closed_turns, closing_of, first_ready, next_evicted, pages_in, is_ended_by, IsTight, IsTightAt}
-use Rattle.vf_journal.proofs.CallerLemmas.{turns_add_up_lem, none_runs_after, none_runs_still, alone_started, left_falls, evicted_is, evict_falls, no_turns, pages_later, pages_at_end, endings_stand, pages_closed, tight_nil, tight_later, tight_started, tight_evicted, tight_closed, tight_unstarted}
+use Rattle.vf_journal.specs.Journal.{ordered, replay, turns_from, turns_since, closed_turns, first_ready, next_evicted, pages_in, is_ended_by, IsTight, IsTightAt}
+use Rattle.vf_journal.proofs.CallerLemmas.{turns_add_up_lem, none_runs_after, none_runs_still, alone_started, left_falls, evicted_is, evict_falls, pages_later, pages_at_end, endings_stand, pages_closed, tight_nil, tight_later, tight_started, tight_evicted, tight_closed, tight_unstarted}
 use Rattle.vf_records.specs.declared.next.Next.TheVariants as nexts
-use Rattle.vf_records.specs.Account.{Account, IsAccount, farm_of, solo_of, records_in, records_after, with_entry, next_of, is_left, next_job_of}
+use Rattle.vf_records.specs.Account.{Account, IsAccount, farm_of, solo_of, records_in, records_after, next_of, is_left, next_job_of}
 use Rattle.vf_records.proofs.CallerLemmas.{done_over, never_later}
-use Rattle.vf_image.specs.Images.{Checkpoint}
 use Rattle.vf_image.specs.Runs.{stimulus_of, limits_for, moment_in}
 use Rattle.vf_image.specs.Simulators.{Simulator, IsSimulator}
 use Rattle.vf_image.specs.Standing.{IsAtSave, IsPassing, IsEnding, IsOver}
 use Rattle.vf_run.specs.declared.stop.Stop.{Stop}
 use Rattle.vf_run.specs.declared.stop.Stop.TheVariants as stops
 use Rattle.vf_run.specs.Stops.{FellShort, Stops}
-use Rattle.vf_book.specs.Book.{BookView, holders, IsBook, Serves, IsOf, HandKept, HandLent, Appends, Evicts, Saves}
+use Rattle.vf_book.specs.Book.{BookView, holders, IsBook, Serves, IsOf, HandKept, HandLent, Appends, Evicts}
 use Rattle.vf_book.specs.Attempts.{IsOpen, Starts}
-use Rattle.vf_here.specs.Work.{IsIdle, IsAtWork, IsClosing, IsTightSoFar, none_started, one_at, turns_in, left_in, Ends, Closes}
+use Rattle.vf_here.specs.Work.{IsIdle, IsAtWork, IsClosing, IsTightSoFar, none_started, one_at, turns_in, left_in, Ends}
 use Rattle.vf_here.specs.Finished.{AreAllOver, HasRun}
 use Rattle.vf_here.proofs.PoolLemmas.{keeps_now, keeps_sim, keeps_images, no_frames, images_framed, parts_left, none_of}
 
@@ -370,6 +368,7 @@ stays_left a b job origin made ready j = ap (λ (r : Records). is_over (r.stages
     same_is (Reach m) (Finish n) e = absurd (false≢true e)
     same_is (Finish m) (Reach n) e = absurd (false≢true e)
     same_is (Finish m) (Finish n) e = ap (λ k. Finish (record { 0 = k })) (eqb-true m.0 n.0 e)
+
     by : (t : Bool) → same_job j job ≡ t → is_over (if t then running (started_from (records_in a) origin) else (records_in a).stages j) ≡ is_over ((records_in a).stages j)
     by true e = sym (ap (λ k. is_over ((records_in a).stages k)) (same_is j job e) ∙ idle_left ((records_in a).stages job) ready)
     by false e = refl

@@ -58,13 +58,7 @@ fn end<F: Frames>(
 }
 
 /// Ends an attempt whose run stops for another reason than that a frame is lacking.
-fn close<F: Frames>(
-    book: &mut Book<F>,
-    pool: &mut F,
-    hand: &mut F::Token,
-    sim: Sim<F>,
-    stop: Stop,
-)
+fn close<F: Frames>(book: &mut Book<F>, pool: &mut F, hand: &mut F::Token, sim: Sim<F>, stop: Stop)
     requires work { IsAtWork (F.name pool.old) (F.numbers pool.old) book.old (F.seen hand.old) sim }
     requires stop { IsClosing sim stop }
     ensures idle { IsIdle (F.name pool.new) (F.numbers pool.new) book.new (F.seen hand.new) }

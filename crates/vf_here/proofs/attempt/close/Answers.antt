@@ -1,4 +1,4 @@
-use Rattle.std.proofs.Common.{◌≡◌, sym, subst, arith}
+use Rattle.std.proofs.Common.{sym, subst, arith}
 use Rattle.vf_jobs.specs.Jobs.{node_of}
 use Rattle.vf_journal.specs.declared.entry.Entry.TheVariants.{Saved, Pass, Lost}
 use Rattle.vf_run.specs.declared.stop.Stop.{Stop}
@@ -19,9 +19,10 @@ returns-in-AtSave-clause-idle g c =
 pub returns-in-AtSave-clause-closed : goal.returns-in-AtSave-clause-closed
 returns-in-AtSave-clause-closed g c =
     let saves = c.put_image.ensures.entry in
-    subst (λ (st : Stop). Closes c.args.sim.job (turns_made c.args.sim st) c.args.book.now.account c.put_image.new.self.account) (sym c.in-AtSave.is)
-    (Saved (record { 0 = node_of c.args.sim.job }) c.args.sim.header.turns saves.pages saves.base,
-    ends_save c.args.book.now.account c.put_image.new.self.account c.args.sim c.requires.work.attempt saves.pages saves.base (subst (λ (st : Stop). IsClosing c.args.sim st) c.in-AtSave.is c.requires.stop).0 saves.entry)
+    subst (λ (st : Stop). Closes c.args.sim.job (turns_made c.args.sim st) c.args.book.now.account c.put_image.new.self.account) (sym c.in-AtSave.is) (
+      Saved (record { 0 = node_of c.args.sim.job }) c.args.sim.header.turns saves.pages saves.base,
+      ends_save c.args.book.now.account c.put_image.new.self.account c.args.sim c.requires.work.attempt saves.pages saves.base (subst (λ (st : Stop). IsClosing c.args.sim st) c.in-AtSave.is c.requires.stop).0 saves.entry,
+    )
 
 pub returns-in-ReadPast-clause-idle : goal.returns-in-ReadPast-clause-idle
 returns-in-ReadPast-clause-idle g c =

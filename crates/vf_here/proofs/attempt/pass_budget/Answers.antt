@@ -11,6 +11,7 @@ returns-clause-idle g c =
     (omega arith) c.over.ensures.pool c.over.ensures.hand c.over.ensures.kept
 
 pub returns-clause-closed : goal.returns-clause-closed
-returns-clause-closed g c =
-    (Pages c.args.sim.job c.args.sim.header.turns c.args.pages,
-    ends_pages c.args.book.now.account c.over.new.self.account c.args.sim c.requires.work.attempt c.args.pages c.requires.work.alone c.requires.none c.over.ensures.entry)
+returns-clause-closed g c = (
+  Pages c.args.sim.job c.args.sim.header.turns c.args.pages,
+  ends_pages c.args.book.now.account c.over.new.self.account c.args.sim c.requires.work.attempt c.args.pages c.requires.work.alone c.requires.none c.over.ensures.entry,
+)

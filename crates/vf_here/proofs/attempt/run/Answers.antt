@@ -1,4 +1,4 @@
-use Rattle.std.proofs.Common.{◌≡◌, ◌≤◌, ◌∙◌, [], refl, sym, ap, ap₂, subst, arith}
+use Rattle.std.proofs.Common.{◌≡◌, ◌∙◌, [], sym, ap, ap₂, subst, arith}
 use Rattle.vf_image.specs.Runs.{limits_for}
 use Rattle.vf_image.specs.Simulators.{Simulator}
 use Rattle.vf_image.specs.Standing.{IsOver}
@@ -63,7 +63,7 @@ pass_budget-requires g c =
     c.turns.sim s inv.work went.pool.name went.setup went.job went.forward went.token.name went.token.parts went.kept in
     record {
       work = work_kept (g.F.Frames.name c.go-stop.new.pool) (g.F.Frames.name c.evict_one.new.pool) (g.F.Frames.numbers c.go-stop.new.pool) (g.F.Frames.numbers c.evict_one.new.pool) c.turns.book c.evict_one.new.self
-    (g.F.Frames.seen c.turns.hand) (g.F.Frames.seen c.evict_one.new.hand) s c.evict_one.new.sim work gave.evicted.0 gave.sim gave.same.name gave.pool gave.hand gave.kept gave.open;
+          (g.F.Frames.seen c.turns.hand) (g.F.Frames.seen c.evict_one.new.hand) s c.evict_one.new.sim work gave.evicted.0 gave.sim gave.same.name gave.pool gave.hand gave.kept gave.open;
       none = subst (λ (x : BookView). (records_in x.account).held ≡ []) (sym gave.evicted.0) gave.evicted.1;
       over = subst (λ (x : Simulator). IsOver x c.in-Short.pages) (sym gave.sim)
           (over_budget (g.F.Frames.name c.turns.pool) (g.F.Frames.numbers c.turns.pool) c.turns.book (g.F.Frames.seen c.turns.hand) c.turns.sim s c.in-Short.pages inv.work

@@ -1,4 +1,4 @@
-use Rattle.std.proofs.Common.{◌≡◌, ◌∙◌, true, refl, sym, ap, subst, arith}
+use Rattle.std.proofs.Common.{◌≡◌, true, sym, ap, subst, arith}
 use Rattle.vf_journal.specs.Records.{is_ready}
 use Rattle.vf_records.specs.Account.{IsAccount, farm_of, records_in}
 use Rattle.vf_records.proofs.CallerLemmas.{ready_next}

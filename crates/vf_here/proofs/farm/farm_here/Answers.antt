@@ -1,4 +1,4 @@
-use Rattle.std.proofs.Common.{◌≡◌, ◌∙◌, refl, sym, ap, subst, arith}
+use Rattle.std.proofs.Common.{◌∙◌, sym, ap}
 use Rattle.std.specs.Arc.{arc_value}
 use Rattle.vf_frames.specs.declared.holder.Holder.{Holder}
 use Rattle.vf_frames.specs.declared.holder.Name.{Name}

@@ -1,4 +1,4 @@
-use Rattle.std.proofs.Common.{◌≡◌, ◌∙◌, subst, arith}
+use Rattle.std.proofs.Common.{◌∙◌, subst, arith}
 use Rattle.vf_records.specs.Account.{IsAccount}
 use Rattle.vf_here.proofs.WorkLemmas.{few_left, all_over}
 use Rattle.vf_here.proofs.farm.run_all.Goals as goal
