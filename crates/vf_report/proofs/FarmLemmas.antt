@@ -6,7 +6,7 @@ use Rattle.vf_base.specs.declared.names.Job.TheVariants.{Finish}
 use Rattle.vf_base.specs.declared.run.Limits.{Limits}
 use Rattle.vf_base.specs.declared.run.Outcome.{Outcome}
 use Rattle.vf_machine.specs.Machine.{Machine}
-use Rattle.vf_machine.specs.Run.{moment_at, turn_of}
+use Rattle.vf_machine.specs.Run.{moment_at}
 use Rattle.vf_machine.specs.Solo.{solo, outcome_at, passing_turn, turns_before_end}
 use Rattle.vf_machine.proofs.CallerLemmas.{run_ends_lem, turns_counted, counts_once}
 use Rattle.vf_design.specs.Words.{machine_of}
@@ -16,8 +16,7 @@ use Rattle.vf_plan.specs.Paths.{joined}
 use Rattle.vf_plan.specs.Rules.{IsPlan, IsNodeAfter}
 use Rattle.vf_jobs.specs.Limits.{limits_of, limits_of_found}
 use Rattle.vf_jobs.specs.Setup.{IsInRange}
-use Rattle.vf_journal.specs.Records.{outcome_told}
-use Rattle.vf_records.specs.Account.{Account, records_in, IsAccount}
+use Rattle.vf_records.specs.Account.{Account, IsAccount}
 use Rattle.vf_report.specs.Tested.{Tested, turns_of}
 use Rattle.vf_report.specs.Totals.{Totals, summary_of}
 use Rattle.vf_report.specs.Texts.{test_text}

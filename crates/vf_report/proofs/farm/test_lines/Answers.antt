@@ -1,4 +1,4 @@
-use Rattle.std.proofs.Common.{◌≡◌, ◌+◌, ◌<◌, ◌≤◌, ◌∙◌, ◌++◌, [], if◌then◌else◌, Option, List, length, get_or, ap, arith}
+use Rattle.std.proofs.Common.{◌≡◌, ◌<◌, ◌≤◌, ◌∙◌, ◌++◌, [], if◌then◌else◌, Option, List, length, get_or, ap, arith}
 use Rattle.vf_base.specs.declared.run.Outcome.{Outcome}
 use Rattle.vf_plan.specs.declared.plan.Node.{Node}
 use Rattle.vf_report.specs.Texts.{test_text}

@@ -1,10 +1,10 @@
-use Rattle.std.proofs.Common.{◌≡◌, ◌+◌, ◌*◌, ◌<◌, ◌≤◌, ◌∙◌, ◌++◌, [], ◌∷◌, if◌then◌else◌, Option, List, length, get_or, ap, arith}
+use Rattle.std.proofs.Common.{◌≡◌, ◌<◌, ◌≤◌, ◌∙◌, ◌++◌, [], ◌∷◌, if◌then◌else◌, Option, List, length, get_or, ap, arith}
 use Rattle.vf_base.specs.declared.run.Outcome.{Outcome}
 use Rattle.vf_plan.specs.declared.plan.Node.{Node}
-use Rattle.vf_report.specs.Tested.{Tested, turns_of}
+use Rattle.vf_report.specs.Tested.{turns_of}
 use Rattle.vf_report.specs.Totals.{summary_of}
 use Rattle.vf_report.specs.Report.{outcomes_in}
-use Rattle.vf_report.proofs.FarmLemmas.{told_small, counts_at_first, counts_next, counts_end}
+use Rattle.vf_report.proofs.FarmLemmas.{told_small, counts_next, counts_end}
 use Rattle.vf_report.proofs.farm.totals.Goals as goal
 
 pub count-requires-clause-turns : goal.count-requires-clause-turns

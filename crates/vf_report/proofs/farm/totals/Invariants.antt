@@ -1,4 +1,4 @@
-use Rattle.std.proofs.Common.{◌≡◌, ◌*◌, ◌≤◌}
+use Rattle.std.proofs.Common.{◌*◌, ◌≤◌}
 use Rattle.vf_report.specs.Report.{outcomes_in}
 use Rattle.vf_report.proofs.FarmLemmas.{Counts}
 use Rattle.vf_report.proofs.farm.totals.Given as goal
