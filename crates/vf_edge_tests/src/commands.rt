@@ -11,6 +11,7 @@ use std::sync::ledger::Blank;
 use std::test::Fail;
 use vf_base::{Memory, Text};
 use vf_ports::{MemShelf, MemSink, SureShelf, SureSink};
+use vf_words::{help_page, version_line};
 
 fn empty_design() -> &'static str {
     "module m; endmodule"
@@ -22,10 +23,6 @@ fn hi() -> &'static str {
 
 fn no_text() -> &'static str {
     "{\"version\":1,\"nodes\":[{\"name\":\"t\",\"text\":\"\",\"test\":true}]}"
-}
-
-fn two_nodes() -> &'static str {
-    "{\"version\":1,\"nodes\":[{\"name\":\"t\",\"text\":\"\",\"test\":true},{\"name\":\"u\",\"text\":\"\",\"test\":true}]}"
 }
 
 fn hi_test() -> &'static str {
@@ -134,7 +131,6 @@ fn bytes_that_are_not_a_plan_tell_their_first_fault(rt: HostRuntime) -> Result<(
         (r#"{"version":1,"nodes":[]}"#, "vfarm: plan: 2 Shape\n"),
         (r#"{"version":1,"nodes":[{"name":"t","text":""}]}"#, "vfarm: plan: 8 NoTest\n"),
         (r#"{"version":1,"nodes":[{"name":"t","hex":"0","test":true}]}"#, "vfarm: plan: 7 BadHex at node 0\n"),
-        (r#"{"version":1,"nodes":[{"name":"t","text":"","test":true},{"name":"u","text":""}]}"#, "vfarm: plan: 11 NotBuilt\n"),
     ] {
         let told = ran(rt.alloc(), echo(), plan)?;
         assert_eq!(rt; told.status, 4, "at {line}");
@@ -154,7 +150,6 @@ fn each_refusal_tells_its_cause(rt: HostRuntime) -> Result<(), Fail> {
             "vfarm: design: early 1 NotBuilt\n",
         ),
         (empty_design(), "{", 3, "vfarm: design: early 1 NotBuilt\n"),
-        (echo(), two_nodes(), 4, "vfarm: plan: 11 NotBuilt\n"),
     ] {
         let told = ran(rt.alloc(), design, plan)?;
         assert_eq!(rt; told.status, status, "at {line}");
@@ -164,21 +159,43 @@ fn each_refusal_tells_its_cause(rt: HostRuntime) -> Result<(), Fail> {
     Ok(())
 }
 
+#[rattlefmt::skip]
 #[test]
-fn words_are_two_names(rt: HostRuntime) -> Result<(), Fail> {
-    let words: [&[&str]; 5] = [
-        &[],
-        &["d.v"],
-        &["d.v", "p.json", "p.json"],
-        &["-d", "p.json"],
-        &["d.v", "-"],
+fn words_that_are_refused_tell_their_first_fault(rt: HostRuntime) -> Result<(), Fail> {
+    let cases: [(&[&str], u8, &str); 10] = [
+        (&[], 2, "vfarm: words: 3 Files\n"),
+        (&["d.v"], 2, "vfarm: words: 3 Files\n"),
+        (&["d.v", "p.json", "p.json"], 2, "vfarm: words: 3 Files\n"),
+        (&["--nothing", "d.v", "p.json"], 2, "vfarm: words: 1 Refused\n"),
+        (&["d.v", "p.json", "--help"], 2, "vfarm: words: 1 Refused\n"),
+        (&["--workers", "17", "d.v", "p.json"], 2, "vfarm: words: 2 Range --workers\n"),
+        (&["--mode", "make", "d.v", "p.json"], 2, "vfarm: words: 2 Range --mode\n"),
+        (&["--mode", "solo", "d.v", "p.json"], 2, "vfarm: words: 4 Test\n"),
+        (&["--mode", "solo", "--test", "q", "d.v", "p.json"], 4, "vfarm: plan: no test q\n"),
+        (&["--top", "m", "d.v", "p.json"], 3, "vfarm: design: elab 1 NoTop at 1:1\n"),
     ];
-    for words in words {
+    for (words, status, line) in cases {
         let files = files(rt.alloc(), echo(), hi())?;
         let told = told(rt.alloc(), words, files, calm())?;
-        assert_eq!(rt; told.status, 2);
+        assert_eq!(rt; told.err.bytes(), line.as_bytes());
+        assert_eq!(rt; told.status, status);
         assert_eq!(rt; told.out.bytes(), "".as_bytes());
-        assert_eq!(rt; told.err.bytes(), "vfarm: words: 1 Refused\n".as_bytes());
+    }
+    Ok(())
+}
+
+#[test]
+fn the_help_page_and_the_version_need_no_files(rt: HostRuntime) -> Result<(), Fail> {
+    let cases: [(&[&str], &[u8]); 3] = [
+        (&["--help", "--nothing"], help_page()),
+        (&["-h"], help_page()),
+        (&["-V", "d.v"], version_line()),
+    ];
+    for (words, page) in cases {
+        let told = told(rt.alloc(), words, Vec::new(rt.alloc()), outside(1, 0, 4096))?;
+        assert_eq!(rt; told.status, 0);
+        assert_eq!(rt; told.out.bytes(), page);
+        assert_eq!(rt; told.err.bytes(), "".as_bytes());
     }
     Ok(())
 }

@@ -7,6 +7,8 @@ mod adapters;
 #[cfg(test)]
 mod commands;
 #[cfg(test)]
+mod farms;
+#[cfg(test)]
 mod journals;
 #[cfg(test)]
 mod lines;

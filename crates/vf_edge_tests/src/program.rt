@@ -21,7 +21,7 @@ fn a_refusal_goes_to_the_error_output(rt: HostRuntime) -> Result<(), Fail> {
             6u8,
             "vfarm: read: design failed\n",
         ),
-        (Ok(Vec::new(rt.alloc())), 2, "vfarm: words: 1 Refused\n"),
+        (Ok(Vec::new(rt.alloc())), 2, "vfarm: words: 3 Files\n"),
         (
             Err(io::Error::from(ErrorKind::InvalidData)),
             2,

@@ -1,7 +1,7 @@
 //! What the program does: it takes the words of the command line and hands the real files, the outputs and a
 //! step counter to the top call.
 //!
-//! It stands on vf_base, vf_ports, vf_adapters and vf_top. `main` of vfarm calls `program` on `words` and on
+//! It stands on vf_base, vf_adapters, vf_words and vf_top. `main` of vfarm calls `program` on `words` and on
 //! standard output and error; all that it does is `command_here`, and what is told where there are no words.
 //! Both are generic over the runtime and the writers, so tests run them over memory.
 #![tactic(auto)]
@@ -15,8 +15,8 @@ use std::rt::{Env, Files};
 use std::sync::ledger::{Blank, Ledger};
 use vf_adapters::{FileShelf, OutSink, Telling};
 use vf_base::Steps;
-use vf_ports::put_all;
-use vf_top::{Refusal, command_here};
+use vf_top::{Refusal, command_here, tell};
+use vf_words::WordFault;
 
 /// Runs the program over a new counter of steps.
 fn counted<R: Files + AllocGlobal, O: Telling, E: Telling, L: Ledger>(
@@ -41,14 +41,6 @@ fn counted<R: Files + AllocGlobal, O: Telling, E: Telling, L: Ledger>(
     )
 }
 
-/// Tells a refusal that comes before the top call has its words.
-fn refuse<E: Telling>(err: &mut E, refusal: Refusal) -> u8 {
-    if let Ok(line) = refusal.line() {
-        let _ = put_all(&mut OutSink::new(err), line);
-    }
-    refusal.status()
-}
-
 /// The words of the command line, without the program's name. One that is not UTF-8 is an error, and so is out
 /// of memory.
 pub fn words<R: Env + AllocGlobal>(rt: &R) -> io::Result<Vec<String>> {
@@ -57,6 +49,14 @@ pub fn words<R: Env + AllocGlobal>(rt: &R) -> io::Result<Vec<String>> {
         words.push(word)?;
     }
     Ok(words)
+}
+
+/// Why there are no words: out of memory, or a word that is not UTF-8.
+fn refusal_of(error: &io::Error) -> Refusal {
+    match error.kind() {
+        ErrorKind::OutOfMemory => Refusal::Memory,
+        _ => Refusal::WrongWords(WordFault::Refused),
+    }
 }
 
 /// Runs the program on the words of its command line, and gives the status that it ends with.
@@ -68,8 +68,6 @@ pub fn program<R: Files + AllocGlobal, O: Telling, E: Telling>(
 ) -> u8 {
     match words {
         Ok(words) => counted::<R, O, E, Brand>(rt, &words, out, err, Blank::new(1)),
-        Err(error) if error.kind() == ErrorKind::OutOfMemory => refuse(err, Refusal::Memory),
-        // a word that is not UTF-8
-        Err(_) => refuse(err, Refusal::Words),
+        Err(error) => tell(rt.alloc(), &mut OutSink::new(err), &refusal_of(&error)),
     }
 }

@@ -1,7 +1,9 @@
 pub mod SeenLemmas
 pub mod ReadLemmas
+pub mod WorkLemmas
 pub mod WriteLemmas
 pub mod SayLemmas
 pub mod FileLemmas
+pub mod LineLemmas
+pub mod TotalLemmas
 pub mod ExactLemmas
-pub mod CauseLemmas

@@ -1,67 +1,85 @@
--- The report of a plan of one test (docs/FORMATS.md, "Report").
-use Rattle.std.specs.Prelude.{ℕ, nat_lt, if◌then◌else◌, List, [], ◌∷◌, ◌++◌, Some}
+-- What the work of a command means for the tests of a plan (docs/FARM.md, "The top call").
+use Rattle.std.specs.Prelude.{◌≡◌, ℕ, nat_lt, Bool, true, ◌&&◌, if◌then◌else◌, List, length, count_by, Option, Some, None, option_and_then}
+use Rattle.std.specs.List.{position}
+use Rattle.std.specs.Str.{bytes_eq}
 use Rattle.vf_base.specs.declared.names.Job.{Job}
 use Rattle.vf_base.specs.declared.names.Job.TheVariants.{Finish}
 use Rattle.vf_base.specs.declared.run.Limits.{Limits}
 use Rattle.vf_base.specs.declared.run.Outcome.{Outcome}
 use Rattle.vf_machine.specs.Solo.{solo_turns}
-use Rattle.vf_design.specs.Program.{Program}
+use Rattle.vf_design.specs.Program.{Program, word_count, page_count}
 use Rattle.vf_design.specs.Words.{machine_of}
 use Rattle.vf_plan.specs.declared.plan.Node.{Node}
-use Rattle.vf_jobs.specs.Kinds as kinds
-use Rattle.vf_jobs.specs.Limits.{limits_of}
 use Rattle.vf_plan.specs.Paths.{joined}
-use Rattle.vf_top.specs.declared.limits.TheConstants.{TURNS, OUTPUT, BUDGET, SLOTS}
-use Rattle.vf_report.specs.Tested.{Tested}
-use Rattle.vf_report.specs.Totals.{Totals, summary_of}
-use Rattle.vf_report.specs.Texts.{test_text, summary_text}
+use Rattle.vf_jobs.specs.Kinds.{outcome_of}
+use Rattle.vf_jobs.specs.Limits.{limits_of}
+use Rattle.vf_jobs.specs.Setup.{Conditions, words_at_start}
+use Rattle.vf_words.specs.declared.command.Command.{Command}
+use Rattle.vf_report.specs.declared.check.Sizes.{Sizes}
+use Rattle.vf_report.specs.Totals.{Totals}
 
--- the limits of a test that has none of its own, the event slots of a design, and the budget in pages
-abbrev pub default_limits : Limits
-default_limits = record { turns = TURNS; output = OUTPUT }
+-- what a farm's runs are given by a command, a design and a plan
+abbrev pub conditions_of : Command → Program → List Node → Conditions
+conditions_of command p nodes = record {
+  design = p;
+  plan = nodes;
+  limits = command.limits;
+  budget = command.pages;
+  order = command.order;
+  zero = words_at_start (machine_of p);
+}
 
-abbrev pub default_slots : ℕ
-default_slots = SLOTS
+-- the job that finishes a test
+abbrev pub job_of : ℕ → Job
+job_of n = Finish (record { 0 = n })
 
-abbrev pub default_budget : ℕ
-default_budget = BUDGET
+-- ---- a test run alone, from time zero on its joined stimulus
 
--- the job that finishes the plan's only test
-abbrev pub only_job : Job
-only_job = Finish (record { 0 = 0 })
+abbrev pub limits_for : Command → List Node → ℕ → Limits
+limits_for command nodes n = limits_of command.limits nodes (job_of n)
 
--- the limits of the plan's only test
-abbrev pub limits_for : Node → Limits
-limits_for test = limits_of default_limits (test ∷ []) only_job
+-- what becomes of it, and how many turns it performs
+abbrev pub alone : Command → Program → List Node → ℕ → Outcome
+alone command p nodes n = outcome_of (machine_of p) command.limits command.pages nodes (job_of n)
 
--- the outcome of the test run alone, and the turns that the run performs
-abbrev pub outcome_of : Program → Node → Outcome
-outcome_of p test = kinds.outcome_of (machine_of p) default_limits default_budget (test ∷ []) only_job
+abbrev pub turns_alone : Command → Program → List Node → ℕ → ℕ
+turns_alone command p nodes n = solo_turns (machine_of p) (joined nodes n) (limits_for command nodes n) command.pages
 
-abbrev pub turns_of : Program → Node → ℕ
-turns_of p test = solo_turns (machine_of p) (joined (test ∷ []) 0) (limits_for test) default_budget
+-- each outcome that is told is that of the test run alone; none is told of a test that was out of memory
+abbrev pub AreAlone : Command → Program → List Node → (ℕ → Option Outcome) → Type 0
+AreAlone command p nodes outcomes = (n : ℕ) (outcome : Outcome) → outcomes n ≡ Some outcome → outcome ≡ alone command p nodes n
 
--- the test as the report counts it
-abbrev pub tested_with : Node → Outcome → Tested
-tested_with test outcome = record { expectation = test.expect; outcome = Some outcome }
+-- ---- the test of mode solo
 
-abbrev pub totals_with : Node → Outcome → Totals
-totals_with test outcome = summary_of (tested_with test outcome ∷ [])
+abbrev pub is_test_named : List ℕ → Node → Bool
+is_test_named name node = node.test && bytes_eq name node.name
 
--- the line of the test, and the line of counts
-abbrev pub text_with : Node → Outcome → List ℕ
-text_with test outcome = test_text test.name test.expect (Some outcome) ++ summary_text (totals_with test outcome)
+-- the number of the test that the words name
+abbrev pub test_of : Command → List Node → Option ℕ
+test_of command nodes = option_and_then (λ name. position (is_test_named name) nodes) command.test
 
-abbrev pub report_text : Program → Node → List ℕ
-report_text p test = text_with test (outcome_of p test)
+-- ---- sizes and statuses
 
--- the status of a whole report: out of memory goes before a passed budget, and that before a failed expectation
+-- the words name no top module, or that of the design
+abbrev pub is_top : Option (List ℕ) → Program → Bool
+is_top None p = true
+is_top (Some name) p = bytes_eq name p.top
+
+-- an early design has one process and one signal
+abbrev pub sizes_of : Program → List Node → Sizes
+sizes_of p nodes = record {
+  processes = 1;
+  signals = 1;
+  words = word_count p;
+  pages = page_count p;
+  nodes = length nodes;
+  tests = count_by (λ node. node.test) nodes;
+}
+
+-- the status after a report: out of memory goes before a passed budget, and that before a failed expectation
 abbrev pub status_of_totals : Totals → ℕ
 status_of_totals totals =
     if nat_lt 0 totals.memory then 8
     else (if nat_lt 0 totals.pages then 5
     else (if nat_lt 0 totals.failed then 1
     else 0))
-
-abbrev pub report_status : Program → Node → ℕ
-report_status p test = status_of_totals (totals_with test (outcome_of p test))

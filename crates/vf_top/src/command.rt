@@ -1,33 +1,56 @@
-ghost use Rattle.std.specs.Prelude.{◌≡◌, ◌++◌, ◌^◌, ◌<◌, map};
+ghost use Rattle.std.specs.Prelude.{◌≡◌, ◌^◌, ◌<◌, ◌≤◌, length, map};
 ghost use Rattle.std.specs.String.{string_bytes};
 ghost use Rattle.vf_ports.specs.Sink.{SinkState};
 ghost use Rattle.vf_top.specs.Answer.{World, Answers};
 ghost use Rattle.vf_top.specs.Promise.{Promised};
-ghost use Rattle.vf_top.specs.Steps.{Ran, Tells, Writes};
+ghost use Rattle.vf_top.specs.Steps.{Ran, Tells, Writes, Ends};
 
-use crate::accept::accept;
-use crate::refusal::{Refusal, memory_line, plan_line};
-use crate::report::{Lines, report};
+use crate::accept::asked;
+use crate::modes::work;
+use crate::refusal::{Refusal, made_line, memory_line};
 use std::alloc::Global;
 use std::sync::ledger::Ledger;
 use vf_base::Steps;
 use vf_early::laws::one_program;
 use vf_ports::{Shelf, Sink, put_all};
+use vf_words::{Asked, help_page, version_line};
 
-/// Writes the report, a line at a time.
-fn write<K: Sink>(out: &mut K, lines: &Lines) -> Result<(), Refusal>
-    ensures { Writes (K.seen out.old) (K.seen out.new) (lines.now.test.items ++ lines.now.summary.items) result }
+/// How long the first line of a text is, with its newline.
+fn line_length(text: &[u8]) -> usize
+    requires { 0 < length text.now }
+    ensures some { 0 < result }
+    ensures within { result ≤ length text.now }
 {
-    let Ok(()) = put_all(out, &lines.test) else {
-        return Err(Refusal::Write);
-    };
-    let Ok(()) = put_all(out, &lines.summary) else {
-        return Err(Refusal::Write);
-    };
+    match text.iter().position(|byte| *byte == b'\n') {
+        Some(at) => at + 1,
+        None => text.len(),
+    }
+}
+
+/// Writes a text, a line at a time.
+fn write<K: Sink>(out: &mut K, text: &[u8]) -> Result<(), Refusal>
+    ensures { Writes (K.seen out.old) (K.seen out.new) text.now result }
+{
+    let mut rest = text;
+    while !rest.is_empty() {
+        let (line, more) = rest.split_at(line_length(rest));
+        let Ok(()) = put_all(out, line) else {
+            return Err(Refusal::Write);
+        };
+        rest = more;
+    }
     Ok(())
 }
 
-/// Does the command's work: reads, runs and writes the report.
+/// Writes a text, and ends with the status after it.
+fn end<K: Sink>(out: &mut K, text: &[u8], status: u8) -> Result<u8, Refusal>
+    ensures { Ends (K.seen out.old) (K.seen out.new) text.now status result }
+{
+    write(out, text)?;
+    Ok(status)
+}
+
+/// Does what the words ask for, and writes what it gives.
 fn run<S: Shelf, K: Sink, L: Ledger>(
     alloc: Global,
     words: &[String],
@@ -44,34 +67,34 @@ fn run<S: Shelf, K: Sink, L: Ledger>(
         Ran (map string_bytes words.now) before after result }
     ensures parts { steps.new.parts ≡ steps.old.parts }
 {
-    let (design, plan) = accept(alloc, words, shelf)?;
-    let Ok(lines) = report(alloc, design, plan, steps) else {
-        return Err(Refusal::Memory);
-    };
-    write(out, &lines)?;
-    Ok(lines.status)
+    match asked(alloc, words)? {
+        Asked::Help => end(out, help_page(), 0),
+        Asked::Version => end(out, version_line(), 0),
+        Asked::Work(command) => {
+            let lines = work(alloc, &command, shelf, steps)?;
+            end(out, &lines.text, lines.status)
+        }
+    }
 }
 
 /// Writes the fault line of a refusal, and gives its status. Where there is no memory for the line, that is
 /// what is told.
-fn tell<E: Sink>(alloc: Global, err: &mut E, refusal: Refusal) -> u8
-    ensures { Tells (E.seen err.old) (E.seen err.new) refusal result }
+pub fn tell<E: Sink>(alloc: Global, err: &mut E, refusal: &Refusal) -> u8
+    ensures { Tells (E.seen err.old) (E.seen err.new) refusal.now result }
 {
-    match refusal.line() {
+    if let Some(line) = refusal.line() {
+        let _ = put_all(err, line);
+        return refusal.status();
+    }
+    match made_line(alloc, refusal) {
         Ok(line) => {
-            let _ = put_all(err, line);
+            let _ = put_all(err, &line);
             refusal.status()
         }
-        Err(fault) => match plan_line(alloc, fault) {
-            Ok(line) => {
-                let _ = put_all(err, &line);
-                refusal.status()
-            }
-            Err(_) => {
-                let _ = put_all(err, memory_line());
-                Refusal::Memory.status()
-            }
-        },
+        Err(_) => {
+            let _ = put_all(err, memory_line());
+            Refusal::Memory.status()
+        }
     }
 }
 
@@ -94,27 +117,30 @@ fn answer<S: Shelf, K: Sink, E: Sink, L: Ledger>(
 {
     match run(alloc, words, shelf, out, steps) {
         Ok(status) => status,
-        Err(refusal) => tell(alloc, err, refusal),
+        Err(refusal) => tell(alloc, err, &refusal),
     }
 }
 
-/// Runs the program: `words` are those of the command line without the program's name. It answers the
-/// status that the program ends with:
+/// Runs the program: `words` are those of the command line without the program's name
+/// (docs/FORMATS.md, "Command words"). It answers the status that the program ends with:
 ///
 /// | Status | Comes |
 /// |---|---|
-/// | 0 | the whole report was written to `out`, and nothing to `err`; none of 1, 5 and 8 stands in it |
-/// | 1 | a whole report: the bytes of a completed test differ from those that the plan expects |
-/// | 2 | exactly where the words are not two names of files |
-/// | 3 | exactly where the bytes of the design are not an early design |
-/// | 4 | exactly where the bytes of the plan are not a plan, or are one of more than one node |
-/// | 5 | a whole report: the solo run of the test touches more pages than the budget |
+/// | 0 | the whole output was written to `out`, and nothing to `err`; none of 1, 5 and 8 stands in it |
+/// | 1 | the whole output: the bytes of a completed test differ from those that the plan expects |
+/// | 2 | exactly where the words are refused |
+/// | 3 | exactly where the bytes of the design are not an early design, or the words name another top module |
+/// | 4 | exactly where the bytes of the plan are not a plan, or mode solo names no test of it |
+/// | 5 | the whole output: a test's run alone touches more pages than the budget |
 /// | 6 | the shelf failed in this call, or exactly where a file is above its limit |
-/// | 7 | the output failed in this call, and took a part of the report |
-/// | 8 | out of memory; nothing was written to `out` |
+/// | 7 | the output failed in this call, and took a part of what was to be written |
+/// | 8 | out of memory: the whole report was written and a test's line says so, or nothing was written to `out` |
 ///
-/// They are tried in the order words, design read, design, plan read, plan, run, write. A refusal writes
-/// its fault line to `err`; a failing `err` changes nothing else.
+/// They are tried in the order words, design read, design, plan read, plan, run, write; of several that a
+/// report has, 8 goes before 5 and 5 before 1. In mode run each outcome reported is that of the test run
+/// alone from time zero, and the journal is that of a farm which shared what the tests have in common; the
+/// counter moves by the turns that it tells. A refusal writes its fault line to `err`; a failing `err`
+/// changes nothing else.
 pub fn command_here<S: Shelf, K: Sink, E: Sink, L: Ledger>(
     alloc: Global,
     words: &[String],

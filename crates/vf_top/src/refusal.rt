@@ -1,11 +1,13 @@
-ghost use Rattle.std.specs.Prelude.{◌≡◌, ◌++◌, IfOk, IfErr, OnOk};
-ghost use Rattle.vf_top.specs.Fault.{fault_text, kind_text, node_text, status_of, limit_of};
+ghost use Rattle.std.specs.Prelude.{◌≡◌, ◌++◌, IfOk, IfSome, OnOk, None};
+ghost use Rattle.vf_top.specs.Fault.{fault_text, fault_of, word_text, kind_text, node_text, status_of, limit_of};
+ghost use Rattle.vf_top.specs.Steps.{HasMadeLine};
 
 use crate::limits::{LONGEST_DESIGN, LONGEST_PLAN};
 use std::alloc::Global;
 use thiserror::Error;
-use vf_base::{Memory, write_decimal};
+use vf_base::{Memory, Text, write_decimal};
 use vf_plan::{PlanFault, PlanKind};
+use vf_words::WordFault;
 
 /// One of the two files.
 #[derive(Clone, Copy, Debug, PartialEq, Eq)]
@@ -14,13 +16,13 @@ pub enum What {
     Plan,
 }
 
-/// Why a command ended without its report. The program prints its fault lines ([`Refusal::line`]), and
-/// never the texts of `Display`.
-#[derive(Clone, Copy, Debug, PartialEq, Eq, Error)]
+/// Why a command ended without its output. The program prints its fault lines, and never the texts of
+/// `Display`.
+#[derive(Debug, Drop, Error)]
 pub enum Refusal {
-    /// The words are not two names of files.
-    #[error("the words are not two names of files")]
-    Words,
+    /// The words of the command line are refused.
+    #[error("the words are refused: {0:?}")]
+    WrongWords(WordFault),
     /// The outside failed to give the file.
     #[error("a file was not read: {0:?}")]
     Failed(What),
@@ -30,14 +32,17 @@ pub enum Refusal {
     /// The bytes of the design are not an early design.
     #[error("the design is not an early design")]
     DesignNotBuilt,
+    /// The words name another top module than the design's.
+    #[error("the design has no top module of that name")]
+    NoTop,
     /// The bytes of the plan are not a plan.
     #[error("the plan is refused: {0:?}")]
     WrongPlan(PlanFault),
-    /// The plan has more than one node.
-    #[error("the plan has more than one node")]
-    PlanNotBuilt,
-    /// The output took less than the whole report.
-    #[error("the report was not written")]
+    /// Mode solo names no test of the plan.
+    #[error("the plan has no test {0:?}")]
+    NoTest(Text),
+    /// The output took less than the whole text.
+    #[error("the output was not written")]
     Write,
     /// Out of memory.
     #[error("out of memory")]
@@ -78,13 +83,13 @@ impl What {
 
 impl Refusal {
     /// The status that the program ends with.
-    pub fn status(self) -> u8
-        ensures { result ≡ status_of self }
+    pub fn status(&self) -> u8
+        ensures { result ≡ status_of self.now }
     {
         match self {
-            Refusal::Words => 2,
-            Refusal::DesignNotBuilt => 3,
-            Refusal::WrongPlan(_) | Refusal::PlanNotBuilt => 4,
+            Refusal::WrongWords(_) => 2,
+            Refusal::DesignNotBuilt | Refusal::NoTop => 3,
+            Refusal::WrongPlan(_) | Refusal::NoTest(_) => 4,
             Refusal::Failed(_) | Refusal::TooLong(_) => 6,
             Refusal::Write => 7,
             Refusal::Memory => 8,
@@ -92,20 +97,19 @@ impl Refusal {
     }
 
     /// The fault line, where it is the same for each such refusal; it takes no memory, so that out of
-    /// memory can be told. The line of a plan's fault is made by [`plan_line`].
-    pub fn line(self) -> Result<&'static [u8], PlanFault>
-        ensures line { IfOk result (λ line. line.now ≡ fault_text self) }
-        ensures made { IfErr result (λ fault. self ≡ Refusal.WrongPlan fault) }
+    /// memory can be told. Any other line is made by [`made_line`].
+    pub fn line(&self) -> Option<&'static [u8]>
+        ensures line { IfSome result (λ line. line.now ≡ fault_text self.now) }
+        ensures made { result ≡ None → HasMadeLine self.now }
     {
         match self {
-            Refusal::Words => Ok(b"vfarm: words: 1 Refused\n"),
-            Refusal::Failed(what) => Ok(what.failed_line()),
-            Refusal::TooLong(what) => Ok(what.long_line()),
-            Refusal::DesignNotBuilt => Ok(b"vfarm: design: early 1 NotBuilt\n"),
-            Refusal::WrongPlan(fault) => Err(fault),
-            Refusal::PlanNotBuilt => Ok(b"vfarm: plan: 11 NotBuilt\n"),
-            Refusal::Write => Ok(b"vfarm: write failed\n"),
-            Refusal::Memory => Ok(memory_line()),
+            Refusal::Failed(what) => Some(what.failed_line()),
+            Refusal::TooLong(what) => Some(what.long_line()),
+            Refusal::DesignNotBuilt => Some(b"vfarm: design: early 1 NotBuilt\n"),
+            Refusal::NoTop => Some(b"vfarm: design: elab 1 NoTop at 1:1\n"),
+            Refusal::WrongWords(_) | Refusal::WrongPlan(_) | Refusal::NoTest(_) => None,
+            Refusal::Write => Some(b"vfarm: write failed\n"),
+            Refusal::Memory => Some(memory_line()),
         }
     }
 }
@@ -134,6 +138,36 @@ fn kind_text(kind: PlanKind) -> &'static [u8]
     }
 }
 
+fn push(text: &[u8], into: &mut Vec<u8>) -> Result<(), Memory>
+    ensures { OnOk result (into.new.items ≡ into.old.items ++ text.now) }
+{
+    into.extend_from_slice(text)?;
+    Ok(())
+}
+
+fn push_text(text: &Text, into: &mut Vec<u8>) -> Result<(), Memory>
+    ensures { OnOk result (into.new.items ≡ into.old.items ++ text.now) }
+{
+    push(text.bytes(), into)
+}
+
+/// Tells what is wrong with the words.
+fn write_words(fault: &WordFault, into: &mut Vec<u8>) -> Result<(), Memory>
+    ensures { OnOk result (into.new.items ≡ into.old.items ++ word_text fault.now) }
+{
+    match fault {
+        WordFault::Refused => into.extend_from_slice(b"1 Refused")?,
+        WordFault::Range(option) => {
+            into.extend_from_slice(b"2 Range ")?;
+            into.extend_from_slice(option.bytes())?;
+        }
+        WordFault::Files => into.extend_from_slice(b"3 Files")?,
+        WordFault::Test => into.extend_from_slice(b"4 Test")?,
+        WordFault::Memory => into.extend_from_slice(b"5 Memory")?,
+    }
+    Ok(())
+}
+
 /// Tells the node at fault, where there is one.
 fn write_node(node: Option<u32>, into: &mut Vec<u8>) -> Result<(), Memory>
     ensures { OnOk result (into.new.items ≡ into.old.items ++ node_text node) }
@@ -145,13 +179,41 @@ fn write_node(node: Option<u32>, into: &mut Vec<u8>) -> Result<(), Memory>
     write_decimal(u64::from(node), into)
 }
 
-/// The fault line of bytes that are not a plan.
-pub fn plan_line(alloc: Global, fault: PlanFault) -> Result<Vec<u8>, Memory>
-    ensures { IfOk result (λ line. line.items ≡ fault_text (Refusal.WrongPlan fault)) }
+/// Tells a refusal whose line has to be made.
+fn write_fault(refusal: &Refusal, into: &mut Vec<u8>) -> Result<(), Memory>
+    requires { HasMadeLine refusal.now }
+    ensures { OnOk result (into.new.items ≡ into.old.items ++ fault_of refusal.now) }
 {
-    let mut line = Vec::from_slice(alloc, b"vfarm: plan: ")?;
-    line.extend_from_slice(kind_text(fault.kind))?;
-    write_node(fault.node, &mut line)?;
+    match refusal {
+        Refusal::WrongWords(fault) => {
+            into.extend_from_slice(b"words: ")?;
+            write_words(fault, into)
+        }
+        Refusal::WrongPlan(fault) => {
+            into.extend_from_slice(b"plan: ")?;
+            into.extend_from_slice(kind_text(fault.kind))?;
+            write_node(fault.node, into)
+        }
+        Refusal::NoTest(name) => {
+            push(b"plan: no test ", into)?;
+            push_text(name, into)
+        }
+        Refusal::Failed(_)
+        | Refusal::TooLong(_)
+        | Refusal::DesignNotBuilt
+        | Refusal::NoTop
+        | Refusal::Write
+        | Refusal::Memory => unreachable!(),
+    }
+}
+
+/// The fault line of a refusal whose line has to be made.
+pub fn made_line(alloc: Global, refusal: &Refusal) -> Result<Vec<u8>, Memory>
+    requires { HasMadeLine refusal.now }
+    ensures { IfOk result (λ line. line.items ≡ fault_text refusal.now) }
+{
+    let mut line = Vec::from_slice(alloc, b"vfarm: ")?;
+    write_fault(refusal, &mut line)?;
     line.extend_from_slice(b"\n")?;
     Ok(line)
 }
