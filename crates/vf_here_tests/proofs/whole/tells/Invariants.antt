@@ -1,0 +1,5 @@
+use Rattle.vf_here_tests.proofs.whole.tells.Given as goal
+
+-- the ledger that the blank names
+abbrev pub ghosts-run : goal.ghosts-run
+ghosts-run g a = record { name = a.blank.name; parts = a.blank.parts }
