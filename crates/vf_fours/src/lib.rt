@@ -22,8 +22,6 @@ use std::marker::Model;
 mod arithmetic;
 mod planes;
 mod shifts;
-#[cfg(test)]
-mod tests;
 
 /// The greatest width of a vector, in bits.
 pub const WIDEST: u32 = 128;
