@@ -53,7 +53,7 @@ fn goes_before(setup: &Setup, a: HeldImage, b: HeldImage) -> bool
 }
 
 /// The one that goes first of an image and the one chosen of those saved after it.
-pub(crate) fn earlier(setup: &Setup, image: HeldImage, best: Option<HeldImage>) -> HeldImage
+fn earlier(setup: &Setup, image: HeldImage, best: Option<HeldImage>) -> HeldImage
     requires image { image.node.0 < length setup.now.plan }
     requires best { IfSome best (λ b. b.node.0 < length setup.now.plan) }
     ensures is { held_of result ≡ earlier_in setup.now.plan setup.now.order (held_of image) (option_map held_of best) }

@@ -20,6 +20,3 @@ mod tables;
 pub use next::Next;
 pub use records::Records;
 pub use row::{Attempt, HeldImage};
-
-#[cfg(test)]
-mod tests;
