@@ -7,16 +7,14 @@ mod adapters;
 #[cfg(test)]
 mod commands;
 #[cfg(test)]
-mod farms;
-#[cfg(test)]
 mod journals;
 #[cfg(test)]
 mod lines;
+#[cfg(test)]
+mod made;
 #[cfg(test)]
 mod outside;
 #[cfg(test)]
 mod ports;
 #[cfg(test)]
 mod program;
-#[cfg(test)]
-mod runs;

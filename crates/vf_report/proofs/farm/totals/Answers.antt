@@ -28,8 +28,8 @@ loop-at-preserved c =
     let small = told_small a c.nodes-nodes.ensures.kept at in
     let is = ap turns_of c.outcome-outcome.ensures in (
       counts_next (outcomes_in a) nodes at c.loop-at.summary c.count.new.summary node within here c.loop-at.invariant.0
-      (λ tests counted. c.count.ensures.summary tests counted
-      ∙ ap (λ (o : Option Outcome). summary_of (tests ++ (if node.test then record { expectation = node.expect; outcome = o } ∷ [] else []))) c.outcome-outcome.ensures),
+          (λ tests counted. c.count.ensures.summary tests counted
+          ∙ ap (λ (o : Option Outcome). summary_of (tests ++ (if node.test then record { expectation = node.expect; outcome = o } ∷ [] else []))) c.outcome-outcome.ensures),
       omega (arith, c.count.ensures.tests, c.loop-at.invariant.1),
       omega (arith, c.count.ensures.turns, c.loop-at.invariant.2, small, is),
     )
