@@ -1,11 +1,9 @@
-//! Tests of the public calls of the farm's crates: vf_plan, vf_jobs, vf_records, vf_image and vf_run. It has no
+//! Tests of the public calls of the farm's crates: vf_jobs, vf_records, vf_image and vf_run. It has no
 //! code of its own, so that the crates that it tests are proved once.
 #![tactic(auto)]
 
 #[cfg(test)]
 mod limits;
-#[cfg(test)]
-mod plans;
 #[cfg(test)]
 mod records;
 #[cfg(test)]
