@@ -51,15 +51,21 @@ fn fault_name(fault: LexemeFault) -> &'static str {
     }
 }
 
+fn lexeme_text(alloc: Global, length: usize, lexeme: &Lexeme) -> Result<Vec<u8>, AllocError> {
+    match lexeme {
+        Lexeme::Blank => named(alloc, length, "blank", b""),
+        Lexeme::Directive => named(alloc, length, "directive", b""),
+        Lexeme::Token(kind) => token(alloc, length, kind),
+    }
+}
+
 /// The lexeme or the fault at the front of a text.
 pub fn lexeme_at(alloc: Global, text: &[u8]) -> Result<Vec<u8>, AllocError> {
     if text.is_empty() {
         return Ok(Vec::new(alloc));
     }
     match lexeme(alloc, text) {
-        Ok((Lexeme::Blank, rest)) => named(alloc, text.len() - rest.len(), "blank", b""),
-        Ok((Lexeme::Directive, rest)) => named(alloc, text.len() - rest.len(), "directive", b""),
-        Ok((Lexeme::Token(kind), rest)) => token(alloc, text.len() - rest.len(), &kind),
+        Ok((found, rest)) => lexeme_text(alloc, text.len() - rest.len(), &found),
         Err(fault) => Vec::from_slice(alloc, fault_name(fault).as_bytes()),
     }
 }
