@@ -1,0 +1,12 @@
+pub mod State
+pub mod Updating
+pub mod Assigning
+pub mod Driving
+pub mod Posting
+pub mod Printing
+pub mod Performing
+pub mod Turning
+pub mod Seeing
+pub mod Words
+pub mod Sound
+pub mod Laws
