@@ -1,0 +1,2 @@
+mod NodeLemmas
+pub mod CallerLemmas

@@ -1,5 +1,7 @@
 pub mod Elaborated
+pub mod Nodes
 pub mod Values
 pub mod Shapes
 pub mod WellFormed
 pub mod Inner
+pub mod Laws

@@ -10,7 +10,7 @@ use Rattle.vf_fours.specs.Choices.{is_narrow, is_free, is_wide}
 use Rattle.vf_elaborated.specs.declared.design.Signal.{Signal}
 use Rattle.vf_elaborated.specs.declared.expr.Expr.{Expr}
 use Rattle.vf_elaborated.specs.declared.expr.Expr.TheOpen.{Expr-F}
-use Rattle.vf_elaborated.specs.declared.expr.Expr.TheFolds.{fold-Expr}
+use Rattle.vf_elaborated.specs.Nodes.{told}
 
 pub record Shape : Type 0 where
   pub width : ℕ
@@ -94,4 +94,4 @@ node_shape signals (Expr-F.PastEnd of) = option_and_then (λ a. Some (record { w
 
 -- the shape of an expression
 abbrev pub shape_of : List Signal → Expr → Option Shape
-shape_of signals = fold-Expr (Option Shape) (node_shape signals)
+shape_of signals = told (node_shape signals)

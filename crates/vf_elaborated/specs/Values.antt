@@ -14,7 +14,7 @@ use Rattle.vf_elaborated.specs.declared.code.MatchKind.{MatchKind}
 use Rattle.vf_elaborated.specs.declared.code.MatchKind.TheVariants as kinds
 use Rattle.vf_elaborated.specs.declared.expr.Expr.{Expr}
 use Rattle.vf_elaborated.specs.declared.expr.Expr.TheOpen.{Expr-F}
-use Rattle.vf_elaborated.specs.declared.expr.Expr.TheFolds.{fold-Expr}
+use Rattle.vf_elaborated.specs.Nodes.{told}
 
 -- the elements of a signal by rising address, each as its bits, least first
 abbrev pub Elements : Type 0
@@ -126,7 +126,7 @@ node_worth signals (Expr-F.PastEnd of) scene = past_end_of scene.past_end (of sc
 
 -- what an expression is worth
 abbrev pub worth_of : List Signal → Expr → Worth
-worth_of signals = fold-Expr Worth (node_worth signals)
+worth_of signals = told (node_worth signals)
 
 -- ---- which signals an expression reads, those in its indices too
 
@@ -143,4 +143,4 @@ node_reads n Expr-F.Now = false
 node_reads n (Expr-F.PastEnd of) = of
 
 abbrev pub reads_signal : ℕ → Expr → Bool
-reads_signal n = fold-Expr Bool (node_reads n)
+reads_signal n = told (node_reads n)

@@ -1,0 +1,8 @@
+//! The laws of elaborated designs, each the contract of a function that does nothing.
+
+ghost use Rattle.vf_elaborated.specs.Laws.{NodesTell};
+
+/// What an expression is worth, which signals it reads, and its width and mark follow from its node by those of its parts.
+pub fn nodes_tell()
+    ensures { NodesTell }
+{}

@@ -1,0 +1,54 @@
+-- The six tables, by computing.
+use Rattle.std.proofs.Common.{refl}
+use Rattle.vf_scheduler_tests.specs.Swap.{SwapRuns}
+use Rattle.vf_scheduler_tests.specs.Mon.{MonRuns}
+use Rattle.vf_scheduler_tests.specs.Res.{ResRuns}
+use Rattle.vf_scheduler_tests.specs.Flood.{FloodRuns}
+use Rattle.vf_scheduler_tests.specs.Bench.{BenchRuns}
+use Rattle.vf_scheduler_tests.specs.Wide.{WideRuns}
+use Rattle.vf_scheduler_tests.specs.Cases.{CasesAre}
+use Rattle.vf_scheduler_tests.proofs.Computing.{everything}
+
+pub swap_runs : SwapRuns
+unfolding everything
+swap_runs = (refl, refl)
+
+pub mon_runs : MonRuns
+unfolding everything
+mon_runs = (refl, refl)
+
+pub res_runs : ResRuns
+unfolding everything
+res_runs = (refl, refl)
+
+pub flood_runs : FloodRuns
+unfolding everything
+flood_runs = (refl, refl)
+
+pub bench_runs : BenchRuns
+unfolding everything
+bench_runs = (refl, refl)
+
+pub wide_runs : WideRuns
+unfolding everything
+wide_runs = (refl, refl)
+
+pub cases_are : CasesAre
+unfolding everything
+cases_are = record {
+  delays = refl;
+  rounds = refl;
+  descriptors = refl;
+  past_ends = refl;
+  edges = (refl, refl);
+  matches = (refl, refl, refl);
+  truths = refl;
+  choices = (refl, refl, refl);
+  elements = refl;
+  lows = refl;
+  parts = refl;
+  overwrites = refl;
+  spreads = refl;
+  futures = (refl, refl, refl);
+  lates = (refl, refl);
+}

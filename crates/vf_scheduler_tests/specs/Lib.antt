@@ -1,0 +1,9 @@
+pub mod Rows
+pub mod Writing
+pub mod Swap
+pub mod Mon
+pub mod Res
+pub mod Flood
+pub mod Bench
+pub mod Wide
+pub mod Cases
