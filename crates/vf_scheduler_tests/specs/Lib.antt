@@ -7,3 +7,5 @@ pub mod Flood
 pub mod Bench
 pub mod Wide
 pub mod Cases
+pub mod Mix
+pub mod Formed

@@ -1,9 +1,10 @@
 -- Short ways to write designs and rows.
 use Rattle.std.specs.Prelude.{ℕ, ◌-◌, Bool, true, false, List, [], ◌∷◌, Option, Some, None, ℤ, pos}
 use Rattle.vf_base.specs.declared.run.Ending.{Ending}
+use Rattle.vf_base.specs.declared.run.SaveKind.{SaveKind}
 use Rattle.vf_fours.specs.declared.Bit.{Bit}
 use Rattle.vf_fours.specs.Numbers.{digits_of}
-use Rattle.vf_machine.specs.declared.mark.Mark.TheVariants.{Plain, Ended}
+use Rattle.vf_machine.specs.declared.mark.Mark.TheVariants.{Plain, Saved, Ended}
 use Rattle.vf_elaborated.specs.declared.design.Signal.{Signal}
 use Rattle.vf_elaborated.specs.declared.design.Process.{Process}
 use Rattle.vf_elaborated.specs.declared.code.Target.{Target}
@@ -95,6 +96,10 @@ wrote words = record { words = words; text = []; mark = Plain }
 
 abbrev pub printed : List (ℕ × ℕ) → List ℕ → Row
 printed words text = record { words = words; text = text; mark = Plain }
+
+-- a turn that is a checkpoint
+abbrev pub saved : List (ℕ × ℕ) → SaveKind → Row
+saved words kind = record { words = words; text = []; mark = Saved kind }
 
 abbrev pub over : Ending → Row
 over ending = record { words = []; text = []; mark = Ended ending }

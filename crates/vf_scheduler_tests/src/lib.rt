@@ -9,7 +9,9 @@ ghost use Rattle.vf_scheduler_tests.specs.Res.{ResRuns};
 ghost use Rattle.vf_scheduler_tests.specs.Flood.{FloodRuns};
 ghost use Rattle.vf_scheduler_tests.specs.Bench.{BenchRuns};
 ghost use Rattle.vf_scheduler_tests.specs.Wide.{WideRuns};
+ghost use Rattle.vf_scheduler_tests.specs.Mix.{MixRuns};
 ghost use Rattle.vf_scheduler_tests.specs.Cases.{CasesAre};
+ghost use Rattle.vf_scheduler_tests.specs.Formed.{FormedAsSaid};
 
 /// Nonblocking assignments, a delay of 0 and a delay.
 pub fn swap()
@@ -39,6 +41,16 @@ pub fn bench()
 /// Memories, parts, values above 64 bits, and `$strobe`.
 pub fn wide()
     ensures { WideRuns }
+{}
+
+/// Loops of `repeat`, cases, `wait`, reads past the end, checkpoints, far delays and `$stop`.
+pub fn mix()
+    ensures { MixRuns }
+{}
+
+/// Which designs are well formed.
+pub fn formed()
+    ensures { FormedAsSaid }
 {}
 
 /// Single rules: delays, rounds, descriptors, edges, cases, parts and the future.
