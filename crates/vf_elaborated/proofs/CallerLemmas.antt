@@ -1,2 +1,5 @@
--- What proofs of the crates above may use: what is told of an expression is its fold, and each node tells it by its parts.
+-- What proofs of the crates above may use: what is told of an expression is its fold, and each node tells it by its parts; a value has
+-- the shape of its expression; the lengths of lists of bits.
 pub use Rattle.vf_elaborated.proofs.NodeLemmas.{told_is_fold, told_by_node}
+pub use Rattle.vf_elaborated.proofs.Shaped.{values_shaped}
+pub use Rattle.vf_elaborated.proofs.OperatorShapes.{zip_length, chosen_length, digits_length}

@@ -1,2 +1,4 @@
 mod NodeLemmas
+mod OperatorShapes
+mod Shaped
 pub mod CallerLemmas

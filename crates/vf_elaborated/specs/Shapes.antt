@@ -1,16 +1,19 @@
 -- The width and the sign mark of an expression that is well formed (docs/LANGUAGE.md, "Elaborated designs"; IEEE Std 1364-2005,
 -- clauses 5.4 and 5.5). An expression has none where a part has none, where operands differ in width, or where a node carries
 -- another width or mark than its value has.
-use Rattle.std.specs.Prelude.{ℕ, ◌+◌, Bool, true, false, ◌&&◌, ◌||◌, ◌==◌, List, [], ◌∷◌, length, Option, Some, None, slice_get, if◌then◌else◌, nat_le, is_some, ℤ, pos, negsuc}
+use Rattle.std.specs.Prelude.{◌≡◌, ℕ, ◌+◌, Bool, true, false, ◌&&◌, ◌||◌, ◌==◌, List, [], ◌∷◌, length, Option, Some, None, slice_get, if◌then◌else◌, nat_le, is_some, ℤ, pos, negsuc}
 use Rattle.std.specs.Bool.{beq}
+use Rattle.std.specs.List.{All}
 use Rattle.std.specs.Option.{option_map, option_and_then}
 use Rattle.vf_fours.specs.declared.UnaryOp.{UnaryOp}
 use Rattle.vf_fours.specs.declared.BinaryOp.{BinaryOp}
+use Rattle.vf_fours.specs.Bits.{FourState}
 use Rattle.vf_fours.specs.Choices.{is_narrow, is_free, is_wide}
 use Rattle.vf_elaborated.specs.declared.design.Signal.{Signal}
 use Rattle.vf_elaborated.specs.declared.expr.Expr.{Expr}
 use Rattle.vf_elaborated.specs.declared.expr.Expr.TheOpen.{Expr-F}
 use Rattle.vf_elaborated.specs.Nodes.{told}
+use Rattle.vf_elaborated.specs.Values.{Elements}
 
 pub record Shape : Type 0 where
   pub width : ℕ
@@ -95,3 +98,13 @@ node_shape signals (Expr-F.PastEnd of) = option_and_then (λ a. Some (record { w
 -- the shape of an expression
 abbrev pub shape_of : List Signal → Expr → Option Shape
 shape_of signals = told (node_shape signals)
+
+-- a value has that many bits, and that mark
+pub record HasShape (a : FourState) (shape : Shape) : Type 0 where
+  pub width : length a.bits ≡ shape.width
+  pub signed : a.signed ≡ shape.signed
+
+-- a signal has its elements, and each its bits
+pub record FitsSignal (signal : Signal) (elements : Elements) : Type 0 where
+  pub count : length elements ≡ signal.elements
+  pub widths : All (λ bits. length bits ≡ signal.width) elements
