@@ -1,24 +1,26 @@
 -- Time zero is sound.
-use Rattle.std.proofs.Common.{◌≡◌, ℕ, zero, suc, ◌+◌, ◌<◌, ◌≤◌, Bool, true, false, List, [], ◌∷◌, length, map, replicate, Option, Some, None, refl, sym, ◌∙◌, ap, subst, arith, ⊎_elim}
+use Rattle.std.proofs.Common.{◌≡◌, ℕ, zero, suc, ◌+◌, ◌<◌, ◌≤◌, true, false, List, [], ◌∷◌, length, map, replicate, Option, Some, None, refl, sym, ◌∙◌, ap, subst, arith, ⊎_elim}
 use Rattle.std.proofs.lemmas.Bool.{cases_lt, cases_eq, false≢true, eq-eqb, ne_eqb, and_parts}
 use Rattle.std.proofs.lemmas.List.{length-replicate, get_or-replicate, get_or_past}
 use Rattle.std.specs.Prelude.{ℤ, nat_eq, if◌then◌else◌}
 use Rattle.std.specs.List.{list_all, fold, flat_map, range_with_len, All, AllZip}
 use Rattle.vf_fours.specs.declared.Bit.{Bit}
 use Rattle.vf_fours.specs.declared.Bit.TheVariants.{X, Z}
-use Rattle.vf_fours.specs.Bits.{zip_with, wire_bit, all_x}
+use Rattle.vf_fours.specs.Bits.{wire_bit, all_x}
 use Rattle.vf_fours.specs.Shapes.{length-tabulate}
 use Rattle.vf_elaborated.specs.declared.design.Signal.{Signal}
 use Rattle.vf_elaborated.specs.declared.design.Process.{Process}
 use Rattle.vf_elaborated.specs.declared.code.Instr.{Instr}
 use Rattle.vf_elaborated.specs.declared.code.TargetPiece.{TargetPiece}
 use Rattle.vf_elaborated.specs.Elaborated.{Elaborated}
+use Rattle.vf_elaborated.specs.Shapes.{FitsSignal}
 use Rattle.vf_elaborated.specs.WellFormed.{is_process, is_code, is_ended}
+use Rattle.vf_elaborated.proofs.CallerLemmas.{zip_length, chosen_length}
 use Rattle.vf_scheduler.specs.State.{Active, Thread, Slot, Free, Item, of_process, of_slot, no_thread, thread_of}
 use Rattle.vf_scheduler.specs.Assigning.{piece_low}
 use Rattle.vf_scheduler.specs.Driving.{driven, spread, constant_worth, net_bits, driver_parts, driver_widths}
 use Rattle.vf_scheduler.specs.Turning.{start, first_drivers, elements_from}
-use Rattle.vf_scheduler.specs.Sound.{Stands, FitsSignal, IsSlot, times, listed, region_of, slot_of, slot_region, slot_listed, is_running}
+use Rattle.vf_scheduler.specs.Sound.{Stands, IsSlot, times, listed, region_of, slot_of, slot_region, slot_listed, is_running}
 use Rattle.vf_scheduler.specs.Laws.{StartIsSound}
 
 -- ---- processes
@@ -42,19 +44,9 @@ threads_start d (process ∷ rest) h =
 
 -- ---- values
 
-zip_length : (f : Bit → Bit → Bit) (xs ys : List Bit) → length xs ≡ length ys → length (zip_with f xs ys) ≡ length xs
-unfolding zip_with
-zip_length f [] ys e = refl
-zip_length f (x ∷ xs) [] e = grind (arith, e)
-zip_length f (x ∷ xs) (y ∷ ys) e = ap suc (zip_length f xs ys (grind (arith, e)))
-
 spread_length : (width : ℕ) (low : Option ℤ) (bits : List Bit) → length (spread width low bits) ≡ width
 spread_length width None bits = length-replicate width Z
 spread_length width (Some low) bits = length-tabulate _ width
-
-chosen_length : (b : Bool) (xs ys : List Bit) (width : ℕ) → length xs ≡ width → length ys ≡ width → length (if b then xs else ys) ≡ width
-chosen_length true xs ys width ex ey = ex
-chosen_length false xs ys width ex ey = ey
 
 driven_length : (signals : List Signal) (net width : ℕ) (bits : List Bit) (part : TargetPiece × List Bit) → length bits ≡ width
     → length (driven signals net width bits part) ≡ width

@@ -4,7 +4,7 @@ use Rattle.std.specs.List.{All, AllZip}
 use Rattle.vf_elaborated.specs.declared.design.Signal.{Signal}
 use Rattle.vf_elaborated.specs.declared.design.Process.{Process}
 use Rattle.vf_elaborated.specs.Elaborated.{Elaborated}
-use Rattle.vf_elaborated.specs.Values.{Elements}
+use Rattle.vf_elaborated.specs.Shapes.{FitsSignal}
 use Rattle.vf_scheduler.specs.State.{State, Status, Active, Inactive, Future, Running, Thread, Update, Slot, Free, Later, Due, Strobed, Item, of_process, of_slot, thread_of}
 use Rattle.vf_scheduler.specs.Driving.{driver_widths}
 use Rattle.vf_scheduler.specs.Posting.{time_of}
@@ -72,11 +72,6 @@ Rises from [] = ⊤
 Rises from (at ∷ rest) = (from ≤ at) × Rises at rest
 
 -- ---- values
-
--- each element of a signal has its bits
-pub record FitsSignal (signal : Signal) (elements : Elements) : Type 0 where
-  pub count : length elements ≡ signal.elements
-  pub widths : All (λ bits. length bits ≡ signal.width) elements
 
 -- an update gives one bit or more to bits that are there
 pub record FitsIn (u : Update) (signal : Signal) : Type 0 where
