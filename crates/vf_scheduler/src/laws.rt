@@ -1,8 +1,13 @@
 //! The laws of the scheduler, each the contract of a function that does nothing.
 
-ghost use Rattle.vf_scheduler.specs.Laws.{StartIsSound};
+ghost use Rattle.vf_scheduler.specs.Laws.{StartIsSound, ReadsGoOn};
 
 /// Time zero of a well-formed design is sound.
 pub fn start_is_sound()
     ensures { StartIsSound }
+{}
+
+/// A turn that reads the stimulus never ends the run by itself: an event is left, and the turn goes on.
+pub fn reads_go_on()
+    ensures { ReadsGoOn }
 {}

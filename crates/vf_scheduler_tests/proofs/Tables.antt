@@ -1,12 +1,17 @@
--- The six tables, by computing.
+-- The tables, by computing.
 use Rattle.std.proofs.Common.{refl, arith}
-use Rattle.vf_scheduler_tests.specs.Swap.{SwapRuns}
-use Rattle.vf_scheduler_tests.specs.Mon.{MonRuns}
-use Rattle.vf_scheduler_tests.specs.Res.{ResRuns}
-use Rattle.vf_scheduler_tests.specs.Flood.{FloodRuns}
-use Rattle.vf_scheduler_tests.specs.Bench.{BenchRuns}
-use Rattle.vf_scheduler_tests.specs.Wide.{WideRuns}
-use Rattle.vf_scheduler_tests.specs.Mix.{MixRuns}
+use Rattle.std.specs.Prelude.{◌≡◌, ◌≤◌, ◌^◌, true, length}
+use Rattle.std.specs.List.{list_all, filter_map, range_with_len, sum_by}
+use Rattle.vf_elaborated.specs.declared.design.Process.{Process}
+use Rattle.vf_elaborated.specs.Elaborated.{Elaborated}
+use Rattle.vf_elaborated.specs.WellFormed.{IsWellFormed, is_signal, is_process, is_show, memory_elements}
+use Rattle.vf_scheduler_tests.specs.Swap.{swap, SwapRuns}
+use Rattle.vf_scheduler_tests.specs.Mon.{mon, MonRuns}
+use Rattle.vf_scheduler_tests.specs.Res.{res, ResRuns}
+use Rattle.vf_scheduler_tests.specs.Flood.{flood, FloodRuns}
+use Rattle.vf_scheduler_tests.specs.Bench.{bench, BenchRuns}
+use Rattle.vf_scheduler_tests.specs.Wide.{wide, WideRuns}
+use Rattle.vf_scheduler_tests.specs.Mix.{mix, MixRuns}
 use Rattle.vf_scheduler_tests.specs.Cases.{CasesAre}
 use Rattle.vf_scheduler_tests.specs.Formed.{FormedAsSaid}
 use Rattle.vf_scheduler_tests.proofs.Computing.{everything}
@@ -59,80 +64,32 @@ pub mix_runs : MixRuns
 unfolding everything
 mix_runs = (refl, refl)
 
+-- a well-formed design, part by part
+formed : (d : Elaborated) → list_all is_signal d.signals ≡ true → list_all (is_process d) d.processes ≡ true → list_all (is_show d.signals) d.shows ≡ true
+    → filter_map (λ (process : Process). process.driver) d.processes ≡ range_with_len 0 d.drivers → (1 ≤ d.slots) × (d.slots ≤ 16384)
+    → length d.signals ≤ 8192 → length d.processes ≤ 4096 → sum_by memory_elements d.signals ≤ 2 ^ 18 → IsWellFormed d
+formed d signals processes shows drivers slots few_signals few_processes few_elements = record {
+  signals = signals;
+  processes = processes;
+  shows = shows;
+  drivers = drivers;
+  slots = slots;
+  few_signals = few_signals;
+  few_processes = few_processes;
+  few_elements = few_elements;
+}
+
 pub formed_as_said : FormedAsSaid
 unfolding everything
 formed_as_said = record {
   formed = record {
-    is_swap = record {
-      signals = refl;
-      processes = refl;
-      shows = refl;
-      drivers = refl;
-      slots = (omega arith, omega arith);
-      few_signals = omega arith;
-      few_processes = omega arith;
-      few_elements = omega arith;
-    };
-    is_mon = record {
-      signals = refl;
-      processes = refl;
-      shows = refl;
-      drivers = refl;
-      slots = (omega arith, omega arith);
-      few_signals = omega arith;
-      few_processes = omega arith;
-      few_elements = omega arith;
-    };
-    is_res = record {
-      signals = refl;
-      processes = refl;
-      shows = refl;
-      drivers = refl;
-      slots = (omega arith, omega arith);
-      few_signals = omega arith;
-      few_processes = omega arith;
-      few_elements = omega arith;
-    };
-    is_flood = record {
-      signals = refl;
-      processes = refl;
-      shows = refl;
-      drivers = refl;
-      slots = (omega arith, omega arith);
-      few_signals = omega arith;
-      few_processes = omega arith;
-      few_elements = omega arith;
-    };
-    is_bench = record {
-      signals = refl;
-      processes = refl;
-      shows = refl;
-      drivers = refl;
-      slots = (omega arith, omega arith);
-      few_signals = omega arith;
-      few_processes = omega arith;
-      few_elements = omega arith;
-    };
-    is_wide = record {
-      signals = refl;
-      processes = refl;
-      shows = refl;
-      drivers = refl;
-      slots = (omega arith, omega arith);
-      few_signals = omega arith;
-      few_processes = omega arith;
-      few_elements = omega arith;
-    };
-    is_mix = record {
-      signals = refl;
-      processes = refl;
-      shows = refl;
-      drivers = refl;
-      slots = (omega arith, omega arith);
-      few_signals = omega arith;
-      few_processes = omega arith;
-      few_elements = omega arith;
-    };
+    is_swap = formed swap refl refl refl refl (omega arith, omega arith) (omega arith) (omega arith) (omega arith);
+    is_mon = formed mon refl refl refl refl (omega arith, omega arith) (omega arith) (omega arith) (omega arith);
+    is_res = formed res refl refl refl refl (omega arith, omega arith) (omega arith) (omega arith) (omega arith);
+    is_flood = formed flood refl refl refl refl (omega arith, omega arith) (omega arith) (omega arith) (omega arith);
+    is_bench = formed bench refl refl refl refl (omega arith, omega arith) (omega arith) (omega arith) (omega arith);
+    is_wide = formed wide refl refl refl refl (omega arith, omega arith) (omega arith) (omega arith) (omega arith);
+    is_mix = formed mix refl refl refl refl (omega arith, omega arith) (omega arith) (omega arith) (omega arith);
   };
   expressions = refl;
   instructions = refl;
