@@ -216,8 +216,8 @@ module _ (P : Rule) (inner : ℕ → Tokens → Read TreeExpr) (sound : (m : ℕ
         let first = before_sign ts count (codes "{") us e opened in
         let a = after_is (codes "}") l.0.2 v.0 v.1 in
         let b = after_is (codes "}") v.0 r.0 r.1 in
-        let behind : l.0.2 ≡ sign a.0 (codes "}") ∷ sign b.0 (codes "}") ∷ r.0 = a.1 ∙ ap (λ (ws : Tokens). sign a.0 (codes "}") ∷ ws) b.1 in
-        let list : IsExprs P l.0.1 us (sign a.0 (codes "}") ∷ sign b.0 (codes "}") ∷ r.0) l.0.0 = subst (λ ws. IsExprs P l.0.1 us ws l.0.0) behind (exprs_is us l.0 l.1) in
+        let following : l.0.2 ≡ sign a.0 (codes "}") ∷ sign b.0 (codes "}") ∷ r.0 = a.1 ∙ ap (λ (ws : Tokens). sign a.0 (codes "}") ∷ ws) b.1 in
+        let list : IsExprs P l.0.1 us (sign a.0 (codes "}") ∷ sign b.0 (codes "}") ∷ r.0) l.0.0 = subst (λ ws. IsExprs P l.0.1 us ws l.0.0) following (exprs_is us l.0 l.1) in
         made _ _ _ (sign p (codes "{") ∷ ts) x r.2 (repeat count.1 l.0.1 p first.0 a.0 b.0 ts us count.0 l.0.0 first.1 list refl refl refl)
 
     concat_is : (p : Place) (ts : Tokens) (a : TreeExpr × ℕ × Tokens) (x : TreeExpr × ℕ × Tokens) → inner 1 ts ≡ Some a → concat_from inner d p a.0 a.1 a.2 ≡ Some x → Good (sign p (codes "{") ∷ ts) x

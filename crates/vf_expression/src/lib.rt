@@ -10,6 +10,7 @@
 #![tactic(auto)]
 
 pub mod laws;
+mod levels;
 mod read;
 mod signs;
 mod stop;

@@ -6,6 +6,7 @@ ghost use Rattle.vf_expression.specs.Grammar.{plain, one, two, pick};
 ghost use Rattle.vf_expression.specs.Reading.{Gives, part_form, node, more_from, exprs_at, part_from, select_from, second_select, selects_at, named_at, closed_at, paren_at, argument_at, feof_at, sign_call_at, system_at, repeat_from, concat_from, braces_at, prefixed_at, opened_at, signed_at, operand_by, operand_at, link_at, chain_at, arms_at, pick_at, chained_at, expr_over, expr_at};
 
 use crate::Stop;
+use crate::levels::left_at;
 use crate::signs::{after, level_of, opening, operator, part, same, strip, unary_of};
 use sqlite_items::{Boxed, Items};
 use std::alloc::Global;
@@ -110,10 +111,10 @@ fn more<'a>(
         let Some(next) = strip(b",", rest) else {
             return Ok((items, deepest, rest));
         };
-        let (item, deep, behind) = expr(alloc, depth, 1, next)?;
+        let (item, deep, following) = expr(alloc, depth, 1, next)?;
         items.push(item)?;
         deepest = deepest.max(deep);
-        rest = behind;
+        rest = following;
     }
     Ok((items, deepest, rest))
 }
@@ -496,15 +497,16 @@ fn operand<'a>(alloc: Global, depth: u32, tokens: &'a [Token]) -> Read<'a, TreeE
     }
 }
 
-/// A binary operator with its right operand, after its left one.
+/// A binary operator with its right operand, after its left one, with which the tokens `whole` begin.
 #[cycle(expressions)]
-#[tactic(auto, unfolding(crate::specs::Reading::link_at))]
+#[tactic(auto, unfolding(crate::specs::Reading::link_at), using(crate::proofs::Depth::link_never))]
 fn link<'a>(
     alloc: Global,
     depth: u32,
     op: BinaryOp,
     left: TreeExpr,
     deep: u32,
+    whole: &[Token],
     tokens: &'a [Token],
 ) -> Read<'a, TreeExpr>
     requires small { depth ≤ 200 }
@@ -512,12 +514,16 @@ fn link<'a>(
     ensures value { Gives (λ x. (x.0, x.1, x.2.now)) result (link_at (expr_at depth) depth op left deep tokens.now) }
     ensures small { IfOk result (λ x. x.1 ≤ depth + 1) }
 {
+    if deep > depth {
+        return Err(Stop::Unexpected(left_at(depth, &left, whole)));
+    }
     let (right, other, rest) = expr(alloc, depth, level_of(op) + 1, tokens)?;
     let tree = two(alloc, op, left, right)?;
     node(depth, tree, deep.max(other) + 1, rest)
 }
 
-/// The operators of the level or tighter that follow an operand, each with its right operand. Each makes the tree deeper.
+/// The operators of the level or tighter that follow an operand, each with its right operand. Each makes the tree deeper. The
+/// tokens `whole` begin with the operand.
 #[cycle(expressions)]
 #[tactic(auto, unfolding(crate::specs::Reading::chain_at))]
 fn chain<'a>(
@@ -526,6 +532,7 @@ fn chain<'a>(
     level: u32,
     first: TreeExpr,
     deep: u32,
+    whole: &[Token],
     tokens: &'a [Token],
 ) -> Read<'a, TreeExpr>
     requires small { depth ≤ 200 }
@@ -537,22 +544,23 @@ fn chain<'a>(
     let mut deepest = deep;
     let mut rest = tokens;
     for _ in 0..depth + 1 {
-        let Some((op, behind)) = operator(level, rest) else {
+        let Some((op, following)) = operator(level, rest) else {
             return Ok((left, deepest, rest));
         };
-        (left, deepest, rest) = link(alloc, depth, op, left, deepest, behind)?;
+        (left, deepest, rest) = link(alloc, depth, op, left, deepest, whole, following)?;
     }
     Err(Stop::Unexpected(tokens.len()))
 }
 
-/// The arms of a conditional expression, after its `?`.
+/// The arms of a conditional expression, after its `?`. The tokens `whole` begin with its condition.
 #[cycle(expressions)]
-#[tactic(auto, unfolding(crate::specs::Reading::arms_at))]
+#[tactic(auto, unfolding(crate::specs::Reading::arms_at), using(crate::proofs::Depth::arms_never))]
 fn arms<'a>(
     alloc: Global,
     depth: u32,
     cond: TreeExpr,
     deep: u32,
+    whole: &[Token],
     tokens: &'a [Token],
 ) -> Read<'a, TreeExpr>
     requires small { depth ≤ 200 }
@@ -560,6 +568,9 @@ fn arms<'a>(
     ensures value { Gives (λ x. (x.0, x.1, x.2.now)) result (arms_at (expr_at depth) depth cond deep tokens.now) }
     ensures small { IfOk result (λ x. x.1 ≤ depth + 1) }
 {
+    if deep > depth {
+        return Err(Stop::Unexpected(left_at(depth, &cond, whole)));
+    }
     let (yes, other, rest) = expr(alloc, depth, 1, tokens)?;
     let rest = after(b":", rest)?;
     let (no, another, rest) = expr(alloc, depth, 1, rest)?;
@@ -567,7 +578,7 @@ fn arms<'a>(
     node(depth, tree, deep.max(other.max(another)) + 1, rest)
 }
 
-/// The arms of a conditional expression, where a `?` follows its condition.
+/// The arms of a conditional expression, where a `?` follows its condition, with which the tokens `whole` begin.
 #[cycle(expressions)]
 #[tactic(auto, unfolding(crate::specs::Reading::pick_at))]
 fn picked<'a>(
@@ -575,6 +586,7 @@ fn picked<'a>(
     depth: u32,
     cond: TreeExpr,
     deep: u32,
+    whole: &[Token],
     tokens: &'a [Token],
 ) -> Read<'a, TreeExpr>
     requires small { depth ≤ 200 }
@@ -583,7 +595,7 @@ fn picked<'a>(
     ensures small { IfOk result (λ x. x.1 ≤ depth + 1) }
 {
     match strip(b"?", tokens) {
-        Some(inside) => arms(alloc, depth, cond, deep, inside),
+        Some(inside) => arms(alloc, depth, cond, deep, whole, inside),
         None => Ok((cond, deep, tokens)),
     }
 }
@@ -597,7 +609,7 @@ fn chained<'a>(alloc: Global, depth: u32, level: u32, tokens: &'a [Token]) -> Re
     ensures small { IfOk result (λ x. x.1 ≤ depth + 1) }
 {
     let (first, deep, rest) = operand(alloc, depth, tokens)?;
-    chain(alloc, depth, level, first, deep, rest)
+    chain(alloc, depth, level, first, deep, tokens, rest)
 }
 
 /// An expression of the level, of depth 1 more than `depth` at most.
@@ -610,7 +622,7 @@ fn expr_over<'a>(alloc: Global, depth: u32, level: u32, tokens: &'a [Token]) -> 
 {
     let (tree, deep, rest) = chained(alloc, depth, level, tokens)?;
     if level == 1 {
-        return picked(alloc, depth, tree, deep, rest);
+        return picked(alloc, depth, tree, deep, tokens, rest);
     }
     Ok((tree, deep, rest))
 }
