@@ -8,3 +8,5 @@ pub use Rattle.vf_control.proofs.ListLemmas.{many_step, ReadsMany, many_read, Re
 pub use Rattle.vf_control.proofs.WordLemmas.{taken, done}
 -- a string at the front
 pub use Rattle.vf_control.proofs.WordLemmas.{string_is, string_again}
+-- the depth of what is read is at most that of the expressions in it
+pub use Rattle.vf_control.proofs.Small.{exprs_small, target_small, delay_small, events_small, task_small}

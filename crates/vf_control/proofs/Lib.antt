@@ -1,6 +1,7 @@
 pub mod Nesting
 pub mod ListLemmas
 mod WordLemmas
+mod Small
 mod Shorter
 mod Sound
 mod Complete

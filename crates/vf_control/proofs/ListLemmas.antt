@@ -23,7 +23,7 @@ pub many_shorter : {A : Type 0} (One : Part A) → ((n : ℕ) (ts rest : Tokens)
 many_shorter One shorter n ts rest _ (no_more deep spelled) = omega (arith, ap length spelled)
 many_shorter One shorter n ts rest _ (one_more m k us a others is more deep) = omega (arith, shorter m ts us a is, many_shorter One shorter k us rest others more)
 
--- what is read behind other items
+-- what is read after other items
 pub record ReadsMany {A : Type 0} (One : Part A) (items : List A) (m : ℕ) (ts : Tokens) (x : List A × ℕ × Tokens) : Type 0 where
   pub others : List A
   pub depth : ℕ

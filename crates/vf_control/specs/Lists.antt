@@ -22,7 +22,7 @@ module _ {A : Type 0} (One : Part A) where
 pub data IsList {A : Type 0} (One : Part A) (n : ℕ) (ts rest : Tokens) (items : List A) : Type 0 where
   listed : (m k : ℕ) (us : Tokens) (a : A) (others : List A) → One m ts us a → IsMany (IsNext One) k us rest others → n ≡ max m k → items ≡ a ∷ others → IsList One n ts rest items
 
--- The items that stand in front, behind those that were read, f at most. An item begins where start says so, and one reads it from there.
+-- The items that stand in front, after those that were read, f at most. An item begins where start says so, and one reads it from there.
 module _ {A S : Type 0} (start : Tokens → Option S) (one : S → Read A) where
   unfoldable pub many_from : ℕ → List A → ℕ → Tokens → Read (List A)
   many_from zero items n ts = Some (items, n, ts)

@@ -67,10 +67,10 @@ fn more<'a>(
         let Some(next) = strip(b",", rest) else {
             return Ok((items, deepest, rest));
         };
-        let (item, deep, behind) = arg(alloc, depth, next)?;
+        let (item, deep, following) = arg(alloc, depth, next)?;
         items.push(item)?;
         deepest = deepest.max(deep);
-        rest = behind;
+        rest = following;
     }
     Ok((items, deepest, rest))
 }

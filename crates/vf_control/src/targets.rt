@@ -62,10 +62,10 @@ fn more<'a>(
         let Some(next) = strip(b",", rest) else {
             return Ok((items, deepest, rest));
         };
-        let (item, deep, behind) = target_within(alloc, depth, nesting, next)?;
+        let (item, deep, following) = target_within(alloc, depth, nesting, next)?;
         items.push(item)?;
         deepest = deepest.max(deep);
-        rest = behind;
+        rest = following;
     }
     Ok((items, deepest, rest))
 }

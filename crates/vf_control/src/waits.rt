@@ -228,10 +228,10 @@ fn more<'a>(alloc: Global, depth: u32, deep: u32, tokens: &'a [Token]) -> Read<'
         let Some((join, next)) = join(rest) else {
             return Ok((items, deepest, rest));
         };
-        let (item, deep, behind) = next_event(alloc, depth, join, next)?;
+        let (item, deep, following) = next_event(alloc, depth, join, next)?;
         items.push(item)?;
         deepest = deepest.max(deep);
-        rest = behind;
+        rest = following;
     }
     Ok((items, deepest, rest))
 }

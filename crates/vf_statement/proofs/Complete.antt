@@ -27,14 +27,13 @@ use Rattle.vf_control.specs.Lists.{IsMany, no_more, one_more}
 use Rattle.vf_control.specs.Grammar.{IsTargetWithin, IsTarget, IsDelay, IsEvents, IsTask}
 use Rattle.vf_control.specs.Grammar as rule
 use Rattle.vf_control.specs.Reading.{target_at, delay_at, events_at, task_at}
-use Rattle.vf_control.proofs.CallerLemmas.{readings_are}
+use Rattle.vf_control.proofs.CallerLemmas.{readings_are, exprs_small, target_small, delay_small, events_small, task_small}
 use Rattle.vf_statement.specs.declared.words.Guard.{Guard}
 use Rattle.vf_statement.specs.declared.simple.ForHead.{ForHead}
 use Rattle.vf_statement.specs.Words.{case_of, guard_of, guarded}
 use Rattle.vf_statement.specs.Grammar.{stmt, citem, Rule, IsCond, enclosed, IsAssignPart, assigned, IsEither, IsCitem, labelled, default, bare_default, IsCitems, no_item, next_item, IsStmtOver, empty, block, named_block, blocking, getc, nonblocking, postponed, lone_if, if_else, choices, while_loop, repeat_loop, forever_loop, for_loop, delayed, on_events, waiting, task_call, IsStmt}
 use Rattle.vf_statement.specs.Reading.{EndsStmt, ReadingsAreStatements, is_word, after_word, name_at, label_at, assign_part_at, getc_from, value_from, blocking_from, late_at, nonblocking_from, assignment_at, call_at, for_head_at, stmts_from, block_from, else_from, if_from, guarded_from, forever_from, for_from, delayed_at, on_from, default_from, labelled_at, citem_at, citems_from, citems_at, case_from, choice_by, stmt_by_word, stmt_by_sign, stmt_by, stmt_over, stmt_at}
 use Rattle.vf_statement.proofs.FrontLemmas.{after_word_again, after_word_other, after_system_again, no_word, no_sign, no_system, not_word}
-use Rattle.vf_statement.proofs.Small.{exprs_small, target_small, delay_small, events_small, task_small}
 use Rattle.vf_statement.proofs.Shorter.{citem_shorter, stmt_shorter}
 use Rattle.vf_statement.proofs.Sound.{count, count_true, count_false, stmt_is}
 
@@ -440,10 +439,10 @@ module _ (P : Rule) (inner : Tokens → Read Stmt) (d : ℕ)
   target_first : (m : ℕ) (t : Token) (ts us rest : Tokens) (target : Target) → IsTarget (IsExpr d) m ts rest target → ts ≡ t ∷ us → TargetFront t
   target_first m t ts us rest target is spelled = target_front d 201 m t us rest target (subst (λ vs. IsTarget (IsExpr d) m vs rest target) spelled is)
 
-  assigned_again : (m : ℕ) (t : Token) (ts us rest behind : Tokens) (target : Target) (tree s : Stmt) (n k : ℕ) → IsTarget (IsExpr d) m ts behind target → ts ≡ t ∷ us → n ≡ k → tree ≡ s → assignment_at d t.place ts ≡ Some (s, k, rest)
+  assigned_again : (m : ℕ) (t : Token) (ts us rest following : Tokens) (target : Target) (tree s : Stmt) (n k : ℕ) → IsTarget (IsExpr d) m ts following target → ts ≡ t ∷ us → n ≡ k → tree ≡ s → assignment_at d t.place ts ≡ Some (s, k, rest)
       → stmt_over d inner ts ≡ Some (tree, n, rest)
-  assigned_again m t ts us rest behind target tree s n k is spelled deep same read =
-      let front = target_first m t ts us behind target is spelled in
+  assigned_again m t ts us rest following target tree s n k is spelled deep same read =
+      let front = target_first m t ts us following target is spelled in
       let whole : assignment_at d t.place (t ∷ us) ≡ Some (s, k, rest) = rw (← spelled) read in
       rw (spelled, deep, same) (by_target t us (s, k, rest) front whole)
 

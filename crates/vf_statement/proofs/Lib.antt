@@ -1,6 +1,5 @@
 pub mod Depth
 mod FrontLemmas
-mod Small
 mod Sound
 mod Shorter
 mod Complete

@@ -239,7 +239,7 @@ module _ (P : Rule) (inner : Tokens → Read Stmt) (d : ℕ) (sound : (ts : Toke
 
   -- ---- blocks
 
-  -- statements up to `end`, behind those that were read
+  -- statements up to `end`, after those that were read
   record ReadsMany (before : List Stmt) (n : ℕ) (ts : Tokens) (x : List Stmt × ℕ × Tokens) : Type 0 where
     l : List Stmt
     j : ℕ

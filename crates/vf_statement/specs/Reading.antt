@@ -142,7 +142,7 @@ for_form h body = form.For h.start.target h.start.value h.cond h.step.target h.s
 -- ---- statements with statements in them; inner reads a statement
 
 module _ (d : ℕ) (inner : Tokens → Read Stmt) where
-  -- the statements up to `end`, behind those that were read, in f steps at most
+  -- the statements up to `end`, after those that were read, in f steps at most
   unfoldable pub stmts_from : ℕ → List Stmt → ℕ → Tokens → Read (List Stmt)
   stmts_from zero items n ts = None
   stmts_from (suc f) items n ts = found_or (after_word (codes "end") ts) (λ rest. Some (items, n, rest)) (inner ts >>= λ x. stmts_from f (items ++ x.0 ∷ []) (max n x.1) x.2)
@@ -209,7 +209,7 @@ module _ (d : ℕ) (inner : Tokens → Read Stmt) where
   citem_at seen [] = None
   citem_at seen (t ∷ rest) = if is_word (codes "default") t.kind then (if seen then None else default_from t.place rest) else labelled_at t.place seen (t ∷ rest)
 
-  -- the items up to `endcase`, behind those that were read, in f steps at most
+  -- the items up to `endcase`, after those that were read, in f steps at most
   unfoldable pub citems_from : ℕ → Bool → List Citem → ℕ → Tokens → Read (List Citem)
   citems_from zero seen items n ts = None
   citems_from (suc f) seen items n ts = found_or (after_word (codes "endcase") ts) (λ rest. Some (items, n, rest)) (citem_at seen ts >>= λ x. citems_from f x.1 (items ++ x.0 ∷ []) (max n x.2) x.3)

@@ -29,13 +29,13 @@ fn stmts<'a>(alloc: Global, depth: u32, tokens: &'a [Token]) -> Read<'a, Items<S
     let mut deepest = 0;
     let mut rest = tokens;
     for _ in 0..tokens.len() {
-        if let Some(behind) = strip_word(b"end", rest) {
-            return Ok((items, deepest, behind));
+        if let Some(following) = strip_word(b"end", rest) {
+            return Ok((items, deepest, following));
         }
-        let (item, deep, behind) = stmt(alloc, depth, rest)?;
+        let (item, deep, following) = stmt(alloc, depth, rest)?;
         items.push(item)?;
         deepest = deepest.max(deep);
-        rest = behind;
+        rest = following;
     }
     Err(Stop::Unexpected(rest.len()))
 }
@@ -197,8 +197,8 @@ fn default_item<'a>(alloc: Global, depth: u32, place: Place, tokens: &'a [Token]
     ensures small { IfOk result (λ x. x.2 ≤ depth) }
 {
     match strip(b":", tokens) {
-        Some(behind) => {
-            let (body, deep, rest) = stmt(alloc, depth, behind)?;
+        Some(following) => {
+            let (body, deep, rest) = stmt(alloc, depth, following)?;
             let form = CitemForm::Default { colon: true, body };
             Ok((Citem { place, form }, true, deep, rest))
         }
@@ -275,14 +275,14 @@ fn more_citems<'a>(
     let mut deepest = deep;
     let mut rest = tokens;
     for _ in 0..tokens.len() {
-        if let Some(behind) = strip_word(b"endcase", rest) {
-            return Ok((items, deepest, behind));
+        if let Some(following) = strip_word(b"endcase", rest) {
+            return Ok((items, deepest, following));
         }
-        let (item, now, deep, behind) = citem(alloc, depth, seen, rest)?;
+        let (item, now, deep, following) = citem(alloc, depth, seen, rest)?;
         items.push(item)?;
         seen = now;
         deepest = deepest.max(deep);
-        rest = behind;
+        rest = following;
     }
     Err(Stop::Unexpected(rest.len()))
 }
@@ -439,7 +439,7 @@ fn stmt_over<'a>(alloc: Global, depth: u32, tokens: &'a [Token]) -> Read<'a, Stm
 }
 
 /// A statement of that depth at most, at the front of the tokens (clause 9; Annex A.6.4). `Unexpected` comes exactly where no
-/// statement stands there; an `else` behind an `if` is taken as part of it.
+/// statement stands there; an `else` after an `if` is taken as part of it.
 #[cycle(statements)]
 #[tactic(auto, using(crate::proofs::Depth::stmt_never, crate::proofs::Depth::stmt_deeper))]
 pub fn stmt<'a>(alloc: Global, depth: u32, tokens: &'a [Token]) -> Read<'a, Stmt>

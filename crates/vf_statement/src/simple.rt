@@ -162,7 +162,7 @@ pub fn assignment<'a>(
 {
     let (target, deep, rest) = target(alloc, depth, tokens)?;
     match strip(b"=", rest) {
-        Some(behind) => blocking(alloc, depth, place, target, deep, behind),
+        Some(following) => blocking(alloc, depth, place, target, deep, following),
         None => nonblocking(alloc, depth, place, target, deep, rest),
     }
 }

@@ -1,4 +1,4 @@
--- The parts of a statement without a statement in them are not deeper than the expressions in them may be.
+-- Targets, delays, events and tasks are not deeper than the expressions in them may be.
 use Rattle.std.proofs.Common.{ℕ, zero, suc, ◌≤◌, List, ◌∷◌, Option, arith, codes}
 use Rattle.vf_tree.specs.declared.expressions.TreeExpr.{TreeExpr}
 use Rattle.vf_tree.specs.declared.expressions.Select.{Select}
