@@ -33,7 +33,7 @@ pub row_shorter : {A : Type 0} (One : Piece A) → ((ts rest : Tokens) (a : A) �
 row_shorter One shorter ts rest _ (row_end spelled) = omega (arith, ap length spelled)
 row_shorter One shorter ts rest _ (row_more us a others is more) = omega (arith, shorter ts us a is, row_shorter One shorter us rest others more)
 
--- what is read behind other items
+-- what is read after other items
 pub record ReadsRow {A : Type 0} (One : Piece A) (items : List A) (ts : Tokens) (x : List A × Tokens) : Type 0 where
   pub others : List A
   pub is : IsRow One ts x.1 others
@@ -100,7 +100,7 @@ next_read One one sound ts us x e read =
     let q = after_is (codes ",") ts us e in
     after_comma q.0 us (sound us x read) q.1
 
--- further items behind those that were read
+-- further items after those that were read
 pub more_read : {A : Type 0} (One : Piece A) (one : Tokens → Found A) → ((ts : Tokens) (x : A × Tokens) → one ts ≡ Some x → One ts x.1 x.0)
     → (items : List A) (ts : Tokens) (x : List A × Tokens) → more_at one items ts ≡ Some x → ReadsRow (IsAfterComma One) items ts x
 unfolding more_at

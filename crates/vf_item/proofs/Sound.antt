@@ -133,11 +133,11 @@ record IsParamRest (p : Place) (m : Bool) (ts : Tokens) (x : Pparam × Tokens) :
   at : Place
   equal : Place
   text : List ℕ
-  behind : Tokens
+  following : Tokens
   shape : Shape
   tree : TreeExpr
-  shaped : IsShape ts (name at text ∷ sign equal (codes "=") ∷ behind) shape
-  valued : IsValue behind x.1 tree
+  shaped : IsShape ts (name at text ∷ sign equal (codes "=") ∷ following) shape
+  valued : IsValue following x.1 tree
   made : x.0 ≡ record { place = p; parameter = m; signed = shape.signed; range = shape.range; name = record { text = text; place = at }; value = tree }
 
 pparam_from_is : (p : Place) (m : Bool) (ts : Tokens) (x : Pparam × Tokens) → pparam_from p m ts ≡ Some x → IsParamRest p m ts x
@@ -153,7 +153,7 @@ pparam_from_is p m ts x e =
       at = n.0.0.place;
       equal = i.0;
       text = n.0.0.text;
-      behind = i.1;
+      following = i.1;
       shape = s.0.0;
       tree = v.0.0;
       shaped = subst (λ (us : Tokens). IsShape ts us s.0.0) front (shape_is ts s.0 s.1);
@@ -167,9 +167,9 @@ pparam_is [] x e = absurd cc
 pparam_is (t ∷ ts) x e =
     branch (is_word (codes "parameter") t.kind) _ _ x (IsPparam (t ∷ ts) x.1 x.0) e (λ same a.
     let r = pparam_from_is t.place true ts x a in
-    marked t.place r.at r.equal r.text ts r.behind r.shape r.tree r.shaped r.valued (ap (λ (u : Token). u ∷ ts) (word_token (codes "parameter") t same)) r.made) (λ a.
+    marked t.place r.at r.equal r.text ts r.following r.shape r.tree r.shaped r.valued (ap (λ (u : Token). u ∷ ts) (word_token (codes "parameter") t same)) r.made) (λ a.
     let r = pparam_from_is t.place false (t ∷ ts) x a in
-    unmarked t r.at r.equal r.text ts r.behind r.shape r.tree r.shaped r.valued refl r.made)
+    unmarked t r.at r.equal r.text ts r.following r.shape r.tree r.shaped r.valued refl r.made)
 
 hport_is : (ts : Tokens) (x : Hport × Tokens) → hport_at ts ≡ Some x → IsHport ts x.1 x.0
 unfolding hport_at
@@ -309,9 +309,9 @@ named_conn_is ts x e =
     let r = bind_some (after (codes ")") s.0.1) (λ rest. Some (record { name = n.0.0; value = s.0.0 }, rest)) x s.2 in
     let p = after_is (codes ".") ts u.0 u.1 in
     let q = after_is (codes "(") n.0.1 v.0 v.1 in
-    let behind : u.0 ≡ name n.0.0.place n.0.0.text ∷ sign q.0 (codes "(") ∷ v.0 = name_is u.0 n.0 n.1 ∙ ap (λ (us : Tokens). name n.0.0.place n.0.0.text ∷ us) q.1 in
+    let following : u.0 ≡ name n.0.0.place n.0.0.text ∷ sign q.0 (codes "(") ∷ v.0 = name_is u.0 n.0 n.1 ∙ ap (λ (us : Tokens). name n.0.0.place n.0.0.text ∷ us) q.1 in
     let is = closed_by IsSlot v.0 s.0 (codes ")") r.0 (slot_is v.0 s.0 s.1) r.1 in
-    done IsNamedConn ts (record { name = n.0.0; value = s.0.0 }, r.0) x r.2 (conn p.0 n.0.0.place q.0 is.0 n.0.0.text v.0 s.0.0 is.1 (p.1 ∙ ap (λ (us : Tokens). sign p.0 (codes ".") ∷ us) behind) refl)
+    done IsNamedConn ts (record { name = n.0.0; value = s.0.0 }, r.0) x r.2 (conn p.0 n.0.0.place q.0 is.0 n.0.0.text v.0 s.0.0 is.1 (p.1 ∙ ap (λ (us : Tokens). sign p.0 (codes ".") ∷ us) following) refl)
 
 lone_is : (p : Place) (o : Option TreeExpr) (ts us : Tokens) (x : Conns × Tokens) → IsSlot ts us o → lone_from p o us ≡ Some x → (e : TreeExpr) × IsValue ts x.1 e × (x.0 ≡ record { place = p; form = conn_forms.One e })
 lone_is p None ts us x is h = absurd cc

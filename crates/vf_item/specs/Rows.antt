@@ -27,7 +27,7 @@ module _ {A : Type 0} (One : Piece A) where
 pub data IsSeries {A : Type 0} (One : Piece A) (ts rest : Tokens) (items : List A) : Type 0 where
   series : (us : Tokens) (a : A) (others : List A) → One ts us a → IsRow (IsAfterComma One) us rest others → items ≡ a ∷ others → IsSeries One ts rest items
 
--- the items that stand in front, behind those that were read, f at most
+-- the items that stand in front, after those that were read, f at most
 module _ {A : Type 0} (start : Tokens → Option Tokens) (one : Tokens → Found A) where
   unfoldable pub row_from : ℕ → List A → Tokens → Found (List A)
   row_from zero items ts = Some (items, ts)

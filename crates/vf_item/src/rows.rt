@@ -38,9 +38,9 @@ pub fn more<'a, P: Piece>(
         let Some(next) = strip(b",", rest) else {
             return Ok((items, rest));
         };
-        let (item, behind) = P::read(alloc, next)?;
+        let (item, following) = P::read(alloc, next)?;
         items.push(item)?;
-        rest = behind;
+        rest = following;
     }
     Ok((items, rest))
 }

@@ -25,13 +25,13 @@ is_left_out (token.Number value) = false
 is_left_out (token.Quoted text) = false
 
 -- the place right after a one-byte token at the first
-abbrev pub is_behind : Place → Place → Bool
-is_behind p q = (q.line == p.line) && (q.column == p.column + 1)
+abbrev pub is_right_after : Place → Place → Bool
+is_right_after p q = (q.line == p.line) && (q.column == p.column + 1)
 
 -- the sign `**`, which is two tokens `*` side by side
 abbrev pub is_power : Token → Tokens → Bool
 is_power t [] = false
-is_power t (u ∷ rest) = is_sign (codes "*") t.kind && (is_sign (codes "*") u.kind && is_behind t.place u.place)
+is_power t (u ∷ rest) = is_sign (codes "*") t.kind && (is_sign (codes "*") u.kind && is_right_after t.place u.place)
 
 -- whether what the language leaves out stands in front
 abbrev pub begins_left_out : Tokens → Bool

@@ -4,7 +4,7 @@ ghost use Rattle.std.specs.Prelude.{◌≡◌, ◌<◌, MatchOption};
 ghost use Rattle.std.specs.List.{list_any};
 ghost use Rattle.std.specs.Str.{bytes_eq};
 ghost use Rattle.vf_lexeme.specs.Words.{left_out_words};
-ghost use Rattle.vf_parse.specs.LeftOut.{system_names, is_left_out, is_behind, is_power, begins_left_out, NoneLeftOut, IsLeftOutAt};
+ghost use Rattle.vf_parse.specs.LeftOut.{system_names, is_left_out, is_right_after, is_power, begins_left_out, NoneLeftOut, IsLeftOutAt};
 
 use vf_base::Place;
 use vf_expression::{is_sign, same};
@@ -62,8 +62,8 @@ fn is_left_out(kind: &TokenKind) -> bool
 
 /// Whether the second place is right after a one-byte token at the first.
 #[tactic(auto, using(crate::proofs::Counting::next_column))]
-fn is_behind(first: Place, second: Place) -> bool
-    ensures { result ≡ is_behind first second }
+fn is_right_after(first: Place, second: Place) -> bool
+    ensures { result ≡ is_right_after first second }
 {
     if second.line != first.line {
         return false;
@@ -84,7 +84,7 @@ fn is_power(first: &Token, rest: &[Token]) -> bool
             if !is_sign(b"*", &second.kind) {
                 return false;
             }
-            is_behind(first.place, second.place)
+            is_right_after(first.place, second.place)
         }
     }
 }

@@ -37,9 +37,9 @@ fn items(alloc: Global, tokens: &[Token]) -> Front<'_, Items<Item>>
         let Some(next) = before_end(rest) else {
             return Ok((items, rest));
         };
-        let (tree, behind) = item(alloc, next)?;
+        let (tree, following) = item(alloc, next)?;
         items.push(tree)?;
-        rest = behind;
+        rest = following;
     }
     Ok((items, rest))
 }
@@ -113,9 +113,9 @@ fn modules(alloc: Global, first: Module, tokens: &[Token]) -> Front<'_, Items<Mo
         let Some(next) = some_tokens(rest) else {
             return Ok((modules, rest));
         };
-        let (tree, behind) = module(alloc, next)?;
+        let (tree, following) = module(alloc, next)?;
         modules.push(tree)?;
-        rest = behind;
+        rest = following;
     }
     Ok((modules, rest))
 }

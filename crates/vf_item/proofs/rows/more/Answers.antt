@@ -5,4 +5,4 @@ use Rattle.vf_item.proofs.rows.more.Goals as goal
 
 pub loop-preserved : goal.loop-preserved
 loop-preserved g c =
-    row_step (after (codes ",")) g.P.Piece.reads _ c.loop.counter c.loop.items c.loop.rest.now c.in-Some.next.now (c.in_ok-item.item, c.in_ok-item.behind.now) c.push.new.self _ c.loop-test.true (sym c.in-Some.ensures) c.in_ok-item.ensures c.in_ok-push.ensures.ok c.loop.invariant
+    row_step (after (codes ",")) g.P.Piece.reads _ c.loop.counter c.loop.items c.loop.rest.now c.in-Some.next.now (c.in_ok-item.item, c.in_ok-item.following.now) c.push.new.self _ c.loop-test.true (sym c.in-Some.ensures) c.in_ok-item.ensures c.in_ok-push.ensures.ok c.loop.invariant
