@@ -1,50 +1,9 @@
-//! Trees as text. An operator with its operands is in parentheses, and parentheses of the source are written as `<` and `>`.
-//! Where places are asked for, each expression and each select has its own in front.
+//! Expressions as text.
 
-use std::alloc::Global;
-use vf_base::{Memory, Place, write_decimal};
+use crate::spelling::{DEEP, Spelling};
+use vf_base::Memory;
 use vf_fours::{BinaryOp, UnaryOp};
 use vf_tree::{ExprForm, PrimaryForm, Select, SelectForm, SignCall, TreeExpr};
-
-/// More levels than any tree has.
-pub const DEEP: u32 = 1_000;
-
-/// Where a tree is written, and whether with its places.
-#[derive(Drop)]
-pub struct Spelling {
-    pub bytes: Vec<u8>,
-    pub places: bool,
-}
-
-impl Spelling {
-    pub fn new(alloc: Global, places: bool) -> Spelling {
-        Spelling {
-            bytes: Vec::new(alloc),
-            places,
-        }
-    }
-
-    pub fn text(&mut self, text: &[u8]) -> Result<(), Memory> {
-        self.bytes.extend_from_slice(text)?;
-        Ok(())
-    }
-
-    pub fn number(&mut self, number: u128) -> Result<(), Memory> {
-        let small = u64::try_from(number).unwrap_or(u64::MAX);
-        write_decimal(small, &mut self.bytes)
-    }
-
-    pub fn place(&mut self, place: Place) -> Result<(), Memory> {
-        if !self.places {
-            return Ok(());
-        }
-        self.text(b"@")?;
-        write_decimal(u64::from(place.line), &mut self.bytes)?;
-        self.text(b":")?;
-        write_decimal(u64::from(place.column), &mut self.bytes)?;
-        self.text(b" ")
-    }
-}
 
 fn unary_text(op: UnaryOp) -> &'static [u8] {
     match op {
@@ -98,17 +57,17 @@ fn spell_pair(
     right: &TreeExpr,
     into: &mut Spelling,
 ) -> Result<(), Memory> {
-    spell(depth, left, into)?;
+    spell_within(depth, left, into)?;
     into.text(sign)?;
-    spell(depth, right, into)
+    spell_within(depth, right, into)
 }
 
 #[cycle(spelling)]
-pub fn spell_select(depth: u32, select: &Select, into: &mut Spelling) -> Result<(), Memory> {
+fn spell_select_within(depth: u32, select: &Select, into: &mut Spelling) -> Result<(), Memory> {
     into.place(select.place)?;
     into.text(b"[")?;
     match &select.form {
-        SelectForm::One(index) => spell(depth, index, into)?,
+        SelectForm::One(index) => spell_within(depth, index, into)?,
         SelectForm::Part { left, right } => spell_pair(depth, left, b":", right, into)?,
         SelectForm::Up { base, width } => spell_pair(depth, base, b"+:", width, into)?,
         SelectForm::Down { base, width } => spell_pair(depth, base, b"-:", width, into)?,
@@ -125,7 +84,7 @@ fn spell_all(depth: u32, trees: &[TreeExpr], into: &mut Spelling) -> Result<(), 
             into.text(b",")?;
         }
         first = false;
-        spell(depth, tree, into)?;
+        spell_within(depth, tree, into)?;
     }
     Ok(())
 }
@@ -137,13 +96,13 @@ fn spell_primary(depth: u32, form: &PrimaryForm, into: &mut Spelling) -> Result<
         PrimaryForm::Name { name, selects } => {
             into.text(name.text.bytes())?;
             for select in selects.as_slice() {
-                spell_select(depth, select, into)?;
+                spell_select_within(depth, select, into)?;
             }
             Ok(())
         }
         PrimaryForm::Paren(of) => {
             into.text(b"<")?;
-            spell(depth, of, into)?;
+            spell_within(depth, of, into)?;
             into.text(b">")
         }
         PrimaryForm::Concat(parts) => {
@@ -153,7 +112,7 @@ fn spell_primary(depth: u32, form: &PrimaryForm, into: &mut Spelling) -> Result<
         }
         PrimaryForm::Repeat { count, parts } => {
             into.text(b"{")?;
-            spell(depth, count, into)?;
+            spell_within(depth, count, into)?;
             into.text(b"{")?;
             spell_all(depth, parts.as_slice(), into)?;
             into.text(b"}}")
@@ -161,12 +120,12 @@ fn spell_primary(depth: u32, form: &PrimaryForm, into: &mut Spelling) -> Result<
         PrimaryForm::Time => into.text(b"$time"),
         PrimaryForm::Feof(of) => {
             into.text(b"$feof(")?;
-            spell(depth, of, into)?;
+            spell_within(depth, of, into)?;
             into.text(b")")
         }
         PrimaryForm::Sign { call, of } => {
             into.text(sign_text(*call))?;
-            spell(depth, of, into)?;
+            spell_within(depth, of, into)?;
             into.text(b")")
         }
     }
@@ -189,7 +148,7 @@ fn spell_form(depth: u32, form: &ExprForm, into: &mut Spelling) -> Result<(), Me
         ExprForm::One { op, of } => {
             into.text(b"(")?;
             into.text(unary_text(*op))?;
-            spell(depth, of, into)?;
+            spell_within(depth, of, into)?;
         }
         ExprForm::Two { op, left, right } => {
             into.text(b"(")?;
@@ -199,7 +158,7 @@ fn spell_form(depth: u32, form: &ExprForm, into: &mut Spelling) -> Result<(), Me
             into.text(b"(")?;
             spell_pair(depth, cond, b"?", yes, into)?;
             into.text(b":")?;
-            spell(depth, no, into)?;
+            spell_within(depth, no, into)?;
         }
     }
     into.text(b")")
@@ -207,10 +166,28 @@ fn spell_form(depth: u32, form: &ExprForm, into: &mut Spelling) -> Result<(), Me
 
 /// Writes an expression of at most so many levels; what is deeper is left out.
 #[cycle(spelling)]
-pub fn spell(depth: u32, tree: &TreeExpr, into: &mut Spelling) -> Result<(), Memory> {
+fn spell_within(depth: u32, tree: &TreeExpr, into: &mut Spelling) -> Result<(), Memory> {
     if depth == 0 {
         return Ok(());
     }
     into.place(tree.place)?;
     spell_form(depth - 1, tree.form.get(), into)
+}
+
+/// Writes an expression: an operator with its operands in parentheses, and parentheses of the source as `<` and `>`.
+pub fn spell_expression(tree: &TreeExpr, into: &mut Spelling) -> Result<(), Memory> {
+    spell_within(DEEP, tree, into)
+}
+
+/// Writes selects, one after the other.
+pub fn spell_selects(selects: &[Select], into: &mut Spelling) -> Result<(), Memory> {
+    for select in selects {
+        spell_select_within(DEEP, select, into)?;
+    }
+    Ok(())
+}
+
+/// Writes expressions with commas between them.
+pub fn spell_expressions(trees: &[TreeExpr], into: &mut Spelling) -> Result<(), Memory> {
+    spell_all(DEEP, trees, into)
 }

@@ -1,24 +1,12 @@
-//! Targets, delays, events and tasks as text, as [`crate::spell`] writes expressions. Where places are asked for, each of them and each
-//! name, number and string in them has its own in front.
+//! Targets, delays, events and tasks as text.
 
-use crate::spell::{DEEP, Spelling, spell, spell_select};
+use crate::expressions::{spell_expression, spell_selects};
+use crate::spelling::{DEEP, Spelling};
 use vf_base::Memory;
 use vf_tree::{
-    Arg, ArgForm, Delay, DelayForm, EdgeWord, EndWord, Event, EventJoin, Events, EventsForm, Name,
-    Quoted, SaveWord, ShowWord, Target, TargetForm, Task, TaskForm,
+    Arg, ArgForm, Delay, DelayForm, EdgeWord, EndWord, Event, EventJoin, Events, EventsForm,
+    SaveWord, ShowWord, Target, TargetForm, Task, TaskForm,
 };
-
-fn spell_name(name: &Name, into: &mut Spelling) -> Result<(), Memory> {
-    into.place(name.place)?;
-    into.text(name.text.bytes())
-}
-
-fn spell_quoted(quoted: &Quoted, into: &mut Spelling) -> Result<(), Memory> {
-    into.place(quoted.place)?;
-    into.text(b"\"")?;
-    into.text(quoted.text.bytes())?;
-    into.text(b"\"")
-}
 
 /// The targets with commas between them.
 #[cycle(targets)]
@@ -29,7 +17,7 @@ fn spell_targets(depth: u32, targets: &[Target], into: &mut Spelling) -> Result<
             into.text(b",")?;
         }
         first = false;
-        spell_target(depth, target, into)?;
+        spell_target_within(depth, target, into)?;
     }
     Ok(())
 }
@@ -38,11 +26,8 @@ fn spell_targets(depth: u32, targets: &[Target], into: &mut Spelling) -> Result<
 fn spell_target_form(depth: u32, form: &TargetForm, into: &mut Spelling) -> Result<(), Memory> {
     match form {
         TargetForm::Name { name, selects } => {
-            spell_name(name, into)?;
-            for select in selects.as_slice() {
-                spell_select(DEEP, select, into)?;
-            }
-            Ok(())
+            into.name(name)?;
+            spell_selects(selects.as_slice(), into)
         }
         TargetForm::Concat(targets) => {
             into.text(b"{")?;
@@ -54,7 +39,7 @@ fn spell_target_form(depth: u32, form: &TargetForm, into: &mut Spelling) -> Resu
 
 /// Writes a target of at most so many levels; what is deeper is left out.
 #[cycle(targets)]
-pub fn spell_target(depth: u32, target: &Target, into: &mut Spelling) -> Result<(), Memory> {
+fn spell_target_within(depth: u32, target: &Target, into: &mut Spelling) -> Result<(), Memory> {
     if depth == 0 {
         return Ok(());
     }
@@ -62,6 +47,12 @@ pub fn spell_target(depth: u32, target: &Target, into: &mut Spelling) -> Result<
     spell_target_form(depth - 1, &target.form, into)
 }
 
+/// Writes a target.
+pub fn spell_target(target: &Target, into: &mut Spelling) -> Result<(), Memory> {
+    spell_target_within(DEEP, target, into)
+}
+
+/// Writes a delay with its `#`.
 pub fn spell_delay(delay: &Delay, into: &mut Spelling) -> Result<(), Memory> {
     into.place(delay.place)?;
     into.text(b"#")?;
@@ -70,10 +61,10 @@ pub fn spell_delay(delay: &Delay, into: &mut Spelling) -> Result<(), Memory> {
             into.place(number.place)?;
             into.number(number.value.ones())
         }
-        DelayForm::Name(name) => spell_name(name, into),
+        DelayForm::Name(name) => into.name(name),
         DelayForm::Expr(tree) => {
             into.text(b"(")?;
-            spell(DEEP, tree, into)?;
+            spell_expression(tree, into)?;
             into.text(b")")
         }
     }
@@ -91,10 +82,10 @@ fn spell_event(event: &Event, into: &mut Spelling) -> Result<(), Memory> {
     if let Some(edge) = event.edge {
         into.text(edge_text(edge))?;
     }
-    spell_name(&event.name, into)?;
+    into.name(&event.name)?;
     if let Some(bit) = &event.bit {
         into.text(b"[")?;
-        spell(DEEP, bit, into)?;
+        spell_expression(bit, into)?;
         into.text(b"]")?;
     }
     Ok(())
@@ -107,12 +98,13 @@ fn join_text(join: EventJoin) -> &'static [u8] {
     }
 }
 
+/// Writes events without their `@`.
 pub fn spell_events(events: &Events, into: &mut Spelling) -> Result<(), Memory> {
     into.place(events.place)?;
     match &events.form {
         EventsForm::Star => into.text(b"*"),
         EventsForm::StarParen => into.text(b"(*)"),
-        EventsForm::Name(name) => spell_name(name, into),
+        EventsForm::Name(name) => into.name(name),
         EventsForm::List { first, more } => {
             into.text(b"(")?;
             spell_event(first, into)?;
@@ -128,8 +120,8 @@ pub fn spell_events(events: &Events, into: &mut Spelling) -> Result<(), Memory> 
 fn spell_arg(arg: &Arg, into: &mut Spelling) -> Result<(), Memory> {
     into.place(arg.place)?;
     match &arg.form {
-        ArgForm::Quoted(quoted) => spell_quoted(quoted, into),
-        ArgForm::Expr(tree) => spell(DEEP, tree, into),
+        ArgForm::Quoted(quoted) => into.quoted(quoted),
+        ArgForm::Expr(tree) => spell_expression(tree, into),
     }
 }
 
@@ -169,6 +161,7 @@ fn end_text(task: EndWord) -> &'static [u8] {
     }
 }
 
+/// Writes a call of a system task without its `;`.
 pub fn spell_task(task: &Task, into: &mut Spelling) -> Result<(), Memory> {
     into.place(task.place)?;
     match &task.form {
@@ -182,14 +175,14 @@ pub fn spell_task(task: &Task, into: &mut Spelling) -> Result<(), Memory> {
         TaskForm::Save { task, name } => {
             into.text(save_text(*task))?;
             into.text(b"(")?;
-            spell_quoted(name, into)?;
+            into.quoted(name)?;
             into.text(b")")
         }
         TaskForm::End { task, number } => {
             into.text(end_text(*task))?;
             if let Some(number) = number {
                 into.text(b"(")?;
-                spell(DEEP, number, into)?;
+                spell_expression(number, into)?;
                 into.text(b")")?;
             }
             Ok(())

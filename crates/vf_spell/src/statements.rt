@@ -1,9 +1,8 @@
-//! Statements as text. One with a statement in it is in parentheses, but for a block; expressions and the other parts are written as
-//! [`crate::spell`] and [`crate::spell_controls`] do. Where places are asked for, each statement and each item of a `case` has its own in
-//! front.
+//! Statements as text.
 
-use crate::spell::{DEEP, Spelling, spell};
-use crate::spell_controls::{spell_delay, spell_events, spell_target, spell_task};
+use crate::controls::{spell_delay, spell_events, spell_target, spell_task};
+use crate::expressions::{spell_expression, spell_expressions};
+use crate::spelling::{DEEP, Spelling};
 use vf_base::Memory;
 use vf_tree::{CaseWord, Citem, CitemForm, Delay, Name, Stmt, StmtForm, Target, TreeExpr};
 
@@ -13,9 +12,9 @@ fn spell_set(
     value: &TreeExpr,
     into: &mut Spelling,
 ) -> Result<(), Memory> {
-    spell_target(DEEP, target, into)?;
+    spell_target(target, into)?;
     into.text(sign)?;
-    spell(DEEP, value, into)
+    spell_expression(value, into)
 }
 
 fn spell_post(
@@ -24,13 +23,13 @@ fn spell_post(
     value: &TreeExpr,
     into: &mut Spelling,
 ) -> Result<(), Memory> {
-    spell_target(DEEP, target, into)?;
+    spell_target(target, into)?;
     into.text(b"<=")?;
     if let Some(delay) = delay {
         spell_delay(delay, into)?;
         into.text(b" ")?;
     }
-    spell(DEEP, value, into)?;
+    spell_expression(value, into)?;
     into.text(b";")
 }
 
@@ -52,8 +51,7 @@ fn spell_block(
     into.text(b"begin")?;
     if let Some(name) = name {
         into.text(b":")?;
-        into.place(name.place)?;
-        into.text(name.text.bytes())?;
+        into.name(name)?;
     }
     for stmt in body {
         into.text(b" ")?;
@@ -72,7 +70,7 @@ fn spell_guarded(
     into: &mut Spelling,
 ) -> Result<(), Memory> {
     into.text(word)?;
-    spell(DEEP, cond, into)?;
+    spell_expression(cond, into)?;
     into.text(b" ")?;
     spell_stmt(depth, body, into)?;
     into.text(b")")
@@ -87,7 +85,7 @@ fn spell_if(
     into: &mut Spelling,
 ) -> Result<(), Memory> {
     into.text(b"(if ")?;
-    spell(DEEP, cond, into)?;
+    spell_expression(cond, into)?;
     into.text(b" ")?;
     spell_stmt(depth, yes, into)?;
     into.text(b" else ")?;
@@ -101,14 +99,7 @@ fn spell_citem(depth: u32, item: &Citem, into: &mut Spelling) -> Result<(), Memo
     into.place(item.place)?;
     match &item.form {
         CitemForm::Labels { labels, body } => {
-            let mut first = true;
-            for label in labels.as_slice() {
-                if !first {
-                    into.text(b",")?;
-                }
-                first = false;
-                spell(DEEP, label, into)?;
-            }
+            spell_expressions(labels.as_slice(), into)?;
             into.text(b":")?;
             spell_stmt(depth, body, into)
         }
@@ -132,7 +123,7 @@ fn spell_case(
     into: &mut Spelling,
 ) -> Result<(), Memory> {
     into.text(case_text(word))?;
-    spell(DEEP, of, into)?;
+    spell_expression(of, into)?;
     for item in items {
         spell_citem(depth, item, into)?;
     }
@@ -196,7 +187,7 @@ fn spell_stmt_form(depth: u32, form: &StmtForm, into: &mut Spelling) -> Result<(
             into.text(b"(for ")?;
             spell_set(start, b"=", first, into)?;
             into.text(b";")?;
-            spell(DEEP, cond, into)?;
+            spell_expression(cond, into)?;
             into.text(b";")?;
             spell_set(step, b"=", next, into)?;
             into.text(b" ")?;
@@ -223,10 +214,15 @@ fn spell_stmt_form(depth: u32, form: &StmtForm, into: &mut Spelling) -> Result<(
 
 /// Writes a statement of at most so many levels; what is deeper is left out.
 #[cycle(statements)]
-pub fn spell_stmt(depth: u32, tree: &Stmt, into: &mut Spelling) -> Result<(), Memory> {
+fn spell_stmt(depth: u32, tree: &Stmt, into: &mut Spelling) -> Result<(), Memory> {
     if depth == 0 {
         return Ok(());
     }
     into.place(tree.place)?;
     spell_stmt_form(depth - 1, tree.form.get(), into)
+}
+
+/// Writes a statement. One with a statement in it is in parentheses, but for a block.
+pub fn spell_statement(tree: &Stmt, into: &mut Spelling) -> Result<(), Memory> {
+    spell_stmt(DEEP, tree, into)
 }

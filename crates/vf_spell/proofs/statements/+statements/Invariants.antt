@@ -1,5 +1,5 @@
 use Rattle.std.proofs.Common.{◌+◌, ◌*◌}
-use Rattle.vf_syntax_tests.proofs.spell_statements.+statements.Given as goal
+use Rattle.vf_spell.proofs.statements.+statements.Given as goal
 
 abbrev pub decreases-spell_stmt : goal.decreases-spell_stmt
 decreases-spell_stmt l = 4 * l.depth + 0
