@@ -1,5 +1,7 @@
 //! Rows.
 
+ghost use Rattle.std.specs.Prelude.{◌≤◌};
+
 use vf_base::Limits;
 
 /// A row of the input.
