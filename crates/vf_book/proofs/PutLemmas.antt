@@ -1,5 +1,5 @@
 -- A simulator at its save point that is kept as the image of its node.
-use Rattle.std.proofs.Common.{◌≡◌, ℕ, ◌<◌, true, List, length, Option, Some, None, option_map, sym, ap, ◌∙◌, arith, subst}
+use Rattle.std.proofs.Common.{◌≡◌, ℕ, ◌<◌, true, List, length, drop, Option, Some, None, option_map, sym, ap, ◌∙◌, arith, subst}
 use Rattle.std.specs.Prelude.{slice_set}
 use Rattle.vf_base.specs.declared.names.Job.{Job}
 use Rattle.vf_base.specs.declared.names.Job.TheVariants.{Reach}
@@ -15,12 +15,12 @@ use Rattle.vf_records.specs.Account.{Account, IsAccount, IsLawful, solo_of, reco
 use Rattle.vf_image.specs.Images.{Checkpoint, IsOwnCount}
 use Rattle.vf_image.specs.Simulators.{Simulator, IsSimulator}
 use Rattle.vf_image.specs.Standing.{IsAtSave}
-use Rattle.vf_book.specs.Book.{IsHeldAs, IsBook, Covers, Appends, Saves}
+use Rattle.vf_book.specs.Book.{IsHeldAs, IsBook, Lags, Appends, Saves}
 use Rattle.vf_book.specs.Attempts.{IsOpen, IsWithin}
 use Rattle.vf_book.specs.Forks.{HasBaseOf, IsKeptAs}
 use Rattle.vf_book.proofs.CallLemmas.{made_of}
 use Rattle.vf_book.proofs.StartLemmas.{has_base_for}
-use Rattle.vf_book.proofs.SaveLemmas.{unsaved, covers_saved}
+use Rattle.vf_book.proofs.SaveLemmas.{unsaved, lags_saved}
 use Rattle.vf_book.proofs.Entries.{save_lawful, save_counts}
 
 module _ (a : Account) (images : List (Option Checkpoint)) (book : IsBook (made_of a images)) (kept : IsAccount a) (s : Simulator) (runs : IsOpen a s) (sim : IsSimulator s)
@@ -75,8 +75,8 @@ module _ (a : Account) (images : List (Option Checkpoint)) (book : IsBook (made_
       }
 
       module _ (b : Account) (made : Appends (Saved node header.turns pages base) a b) where
-        pub covers_put : Covers b (slice_set images node.0 (Some i))
-        covers_put = covers_saved a b images book node header.turns pages base i node_inside node_unsaved made held_as_saved
+        pub lags_put : Lags b (slice_set images node.0 (Some i)) (drop (length a.journal) b.journal)
+        lags_put = lags_saved a b images book node header.turns pages base i node_inside node_unsaved made held_as_saved
 
         pub saves_node : Saves a b (record { 0 = node_of s.job }) s.header.turns kind
         saves_node =

@@ -1,7 +1,8 @@
 -- An image that is kept in a book.
-use Rattle.std.proofs.Common.{◌≡◌, ◌≢◌, ℕ, ◌<◌, true, List, length, Option, Some, None, refl, sym, ap, ◌∙◌, subst, inl, inr, ◌⊎◌}
+use Rattle.std.proofs.Common.{◌≡◌, ◌≢◌, ℕ, ◌<◌, ◌==◌, Bool, true, false, if◌then◌else◌, List, [], ◌∷◌, ◌++◌, length, drop, Option, Some, None, is_some, refl, sym, ap, ◌∙◌, subst, inl, inr, ◌⊎◌}
+use Rattle.std.specs.List.{find}
 use Rattle.std.specs.Prelude.{slice_set}
-use Rattle.std.proofs.lemmas.Bool.{cases_eq, false≢true}
+use Rattle.std.proofs.lemmas.Bool.{cases_eq, eq-eqb, false≢true}
 use Rattle.std.proofs.lemmas.List.{get_or-set_same, get_or-set_other, length-set}
 use Rattle.vf_base.specs.declared.names.Job.TheVariants.{Reach}
 use Rattle.vf_base.specs.declared.names.NodeNo.{NodeNo}
@@ -9,13 +10,31 @@ use Rattle.vf_jobs.specs.Jobs.{node_no}
 use Rattle.vf_jobs.specs.Setup.{Conditions}
 use Rattle.vf_journal.specs.declared.entry.Entry.TheVariants.{Saved}
 use Rattle.vf_journal.specs.Records.{Held, Attempt, Records, Stage, idle, running, deferred, over, image_of, is_over}
-use Rattle.vf_journal.specs.Effects.{IsRunning}
+use Rattle.vf_journal.specs.Effects.{IsRunning, with_its_copies}
 use Rattle.vf_journal.specs.Holding.{saved_image}
 use Rattle.vf_journal.proofs.CallerLemmas.{image_last, found_held}
 use Rattle.vf_records.specs.Account.{Account, IsAccount, farm_of, solo_of, records_in}
 use Rattle.vf_image.specs.Images.{Checkpoint}
-use Rattle.vf_book.specs.Book.{image_at, IsHeldAs, Fits, Covered, IsBook, Covers, Appends}
+use Rattle.vf_book.specs.Book.{image_at, IsHeldAs, Fits, Covered, IsBook, Covers, Lags, Appends}
 use Rattle.vf_book.proofs.CallLemmas.{made_of}
+use Rattle.vf_book.proofs.ImageLemmas.{fits_some, lags_after}
+
+-- what is found in a list is found in a longer one
+found_more : {A : Type 0} (p : A → Bool) (xs ys : List A) → is_some (find p xs) ≡ true → is_some (find p (xs ++ ys)) ≡ true
+found_more p [] ys some = absurd (false≢true some)
+found_more p (x ∷ xs) ys some = by (λ s. found_more p xs ys s) (p x) some
+  where
+    by : (is_some (find p xs) ≡ true → is_some (find p (xs ++ ys)) ≡ true) → (b : Bool) → is_some (if b then Some x else find p xs) ≡ true → is_some (if b then Some x else find p (xs ++ ys)) ≡ true
+    by rest true some = refl
+    by rest false some = rest some
+
+found_last : {A : Type 0} (p : A → Bool) (xs : List A) (x : A) → p x ≡ true → is_some (find p (xs ++ x ∷ [])) ≡ true
+found_last p [] x is = ap (λ b. is_some (if b then Some x else None)) is
+found_last p (y ∷ ys) x is = by (found_last p ys x is) (p y)
+  where
+    by : is_some (find p (ys ++ x ∷ [])) ≡ true → (b : Bool) → is_some (if b then Some y else find p (ys ++ x ∷ [])) ≡ true
+    by rest true = refl
+    by rest false = rest
 
 -- a node whose job runs has no image
 not_over : (s : Stage) (attempt : Attempt) → s ≡ running attempt → is_over s ≡ true → ⊥
@@ -83,3 +102,16 @@ module _ (a b : Account) (images : List (Option Checkpoint)) (book : IsBook (mad
           subst (λ (x : Account). Covered x.setup (image_at (slice_set images node.0 (Some i)) n) (image_of (records_in b) (node_no n))) (sym made.account)
           (covered_last n (image_of (records_in b) (node_no n)) refl);
     }
+
+    abbrev saved : Records
+    saved = with_its_copies (farm_of a.setup) (solo_of a.setup) (records_in a) (Saved node turn pages base)
+
+    shown : (n : ℕ) → (n ≡ node.0) ⊎ (n ≢ node.0) → is_some (image_at (slice_set images node.0 (Some i)) n) ≡ true → is_some (image_of saved (node_no n)) ≡ true
+    shown n (inl same) some = found_last (λ (h : Held). h.node.0 == n) (records_in a).held record { node = node; turn = turn; pages = pages; base = base } (eq-eqb node.0 n (sym same))
+    shown n (inr other) some =
+        found_more (λ (h : Held). h.node.0 == n) (records_in a).held (record { node = node; turn = turn; pages = pages; base = base } ∷ [])
+        (fits_some a.setup (image_at images n) (image_of (records_in a) (node_no n)) (book.held n) (ap is_some (sym (get_or-set_other images node.0 n (Some i) None other)) ∙ some))
+
+    -- and the images beyond are those that were retired with it
+    pub lags_saved : Lags b (slice_set images node.0 (Some i)) (drop (length a.journal) b.journal)
+    lags_saved = lags_after a b (slice_set images node.0 (Some i)) (Saved node turn pages base) refl made covers_saved (λ n some. shown n (cases_eq n node.0) some)

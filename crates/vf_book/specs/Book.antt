@@ -1,5 +1,6 @@
 -- What contracts see of a book, and what it keeps (docs/FARM.md, "The book").
-use Rattle.std.specs.Prelude.{◌≡◌, ℕ, ◌+◌, ◌≤◌, List, [], ◌∷◌, length, get_or, Option, Some, None, option_map}
+use Rattle.std.specs.Prelude.{◌≡◌, ℕ, ◌+◌, ◌<◌, ◌≤◌, ◌==◌, Bool, true, false, List, [], ◌∷◌, length, get_or, slice_set, Option, Some, None, is_some, option_map}
+use Rattle.std.specs.List.{list_any}
 use Rattle.vf_base.specs.declared.names.NodeNo.{NodeNo}
 use Rattle.vf_base.specs.declared.run.SaveKind.{SaveKind}
 use Rattle.vf_frames.specs.declared.holder.Name.{Name}
@@ -9,7 +10,7 @@ use Rattle.vf_frames.specs.Calls.{capped, NoWin, NotesGrow}
 use Rattle.vf_jobs.specs.Jobs.{node_no}
 use Rattle.vf_jobs.specs.Setup.{Conditions}
 use Rattle.vf_journal.specs.declared.entry.Entry.{Entry}
-use Rattle.vf_journal.specs.declared.entry.Entry.TheVariants.{Saved, Evict}
+use Rattle.vf_journal.specs.declared.entry.Entry.TheVariants.{Start, Saved, Pass, End, Pages, Copy, Lost, Short, Evict, Retire, Rest}
 use Rattle.vf_journal.specs.Records.{Held, image_of}
 use Rattle.vf_journal.specs.Journal.{base_for, next_evicted, SavesSolo}
 use Rattle.vf_records.specs.Account.{Account, farm_of, records_in, records_after, with_entry}
@@ -69,6 +70,44 @@ pub record IsBook (b : BookView) : Type 0 where
 pub record Covers (a : Account) (images : List (Option Checkpoint)) : Type 0 where
   pub long : length images ≡ length a.setup.plan
   pub held : (n : ℕ) → CoveredAt a images n
+
+-- ---- images that were retired
+
+-- the node whose image an entry retires
+abbrev pub retired_by : Entry → Option NodeNo
+retired_by (Start job origin) = None
+retired_by (Saved node turn pages base) = None
+retired_by (Pass node turn) = None
+retired_by (End job turn) = None
+retired_by (Pages job turn pages) = None
+retired_by (Copy job node) = None
+retired_by (Lost job turn) = None
+retired_by (Short job turn) = None
+retired_by (Evict node) = None
+retired_by (Retire node) = Some node
+retired_by Rest = None
+
+abbrev pub retired_in : Option Entry → Option NodeNo
+retired_in None = None
+retired_in (Some e) = retired_by e
+
+abbrev pub is_node : ℕ → Option NodeNo → Bool
+is_node n None = false
+is_node n (Some node) = node.0 == n
+
+abbrev pub retires : ℕ → Entry → Bool
+retires n e = is_node n (retired_by e)
+
+-- the images without that of a node
+abbrev pub without : Option NodeNo → List (Option Checkpoint) → List (Option Checkpoint)
+without None images = images
+without (Some node) images = slice_set images node.0 None
+
+-- the images are those that the records hold, and those that these entries retire
+pub record Lags (a : Account) (images : List (Option Checkpoint)) (entries : List Entry) : Type 0 where
+  pub covers : Covers a images
+  pub retired : (n : ℕ) → image_of (records_in a) (node_no n) ≡ None → is_some (image_at images n) ≡ true → list_any (retires n) entries ≡ true
+  pub gone : (n : ℕ) → list_any (retires n) entries ≡ true → (n < length a.setup.plan) × (image_of (records_in a) (node_no n) ≡ None)
 
 -- ---- the pool
 

@@ -14,7 +14,7 @@ ghost use Rattle.vf_book.specs.Book.{holders, Appends, IsBook, Evicts, HandKept,
 ghost use Rattle.vf_book.specs.Attempts.{IsOpen, Starts};
 
 use crate::fork::{keep, put, start_from};
-use crate::images::{end_attempt, give_back, no_images, release_all, release_unheld};
+use crate::images::{end_attempt, entries, give_back, no_images, release_all, release_retired};
 use std::alloc::Global;
 use std::marker::Model;
 use std::sync::Arc;
@@ -105,8 +105,9 @@ impl<F: Frames> Book<F> {
         ensures same { SamePool (F.name pool.old) (F.numbers pool.old) (F.name pool.new) (F.numbers pool.new) }
     {
         let (job, header) = stand(&sim);
+        let since = entries(&self.records);
         self.records.pass(node_of(job), header.turns);
-        end_attempt(&self.records, &mut self.images, pool, hand, sim);
+        end_attempt(&self.records, since, &mut self.images, pool, hand, sim);
     }
 
     /// A simulator's job is over without an outcome, since memory ran out, and its frames are given
@@ -123,8 +124,9 @@ impl<F: Frames> Book<F> {
         ensures same { SamePool (F.name pool.old) (F.numbers pool.old) (F.name pool.new) (F.numbers pool.new) }
     {
         let (job, header) = stand(&sim);
+        let since = entries(&self.records);
         self.records.lose(job, header.turns);
-        end_attempt(&self.records, &mut self.images, pool, hand, sim);
+        end_attempt(&self.records, since, &mut self.images, pool, hand, sim);
     }
 
     /// The job that comes next is over without an outcome, since memory ran out before it could
@@ -139,8 +141,9 @@ impl<F: Frames> Book<F> {
             (F.numbers pool.new) (F.seen hand.new ∷ holders self.new.images) }
         ensures same { SamePool (F.name pool.old) (F.numbers pool.old) (F.name pool.new) (F.numbers pool.new) }
     {
+        let since = entries(&self.records);
         self.records.lose(job, 0);
-        release_unheld(&self.records, &mut self.images, pool, hand);
+        release_retired(&self.records, since, &mut self.images, pool, hand);
     }
 
     // A simulator's job is over with an ending.
@@ -168,8 +171,9 @@ impl<F: Frames> Book<F> {
             text,
             turns,
         };
+        let since = entries(&self.records);
         self.records.end(job, counts, outcome);
-        release_unheld(&self.records, &mut self.images, pool, hand);
+        release_retired(&self.records, since, &mut self.images, pool, hand);
     }
 
     /// The job of a simulator that reaches a node is over with an ending: its next turn ends the
@@ -241,8 +245,9 @@ impl<F: Frames> Book<F> {
         ensures same { SamePool (F.name pool.old) (F.numbers pool.old) (F.name pool.new) (F.numbers pool.new) }
     {
         let (job, header) = stand(&sim);
+        let since = entries(&self.records);
         self.records.pass_budget(job, header.turns, pages);
-        end_attempt(&self.records, &mut self.images, pool, hand, sim);
+        end_attempt(&self.records, since, &mut self.images, pool, hand, sim);
     }
 
     /// Where a simulator is short of a frame, the image that the setup's order chooses is given
@@ -328,8 +333,9 @@ impl<F: Frames> Book<F> {
             base,
         };
         put(&mut self.images, node, image);
+        let since = entries(&self.records);
         self.records.save(held);
-        release_unheld(&self.records, &mut self.images, pool, hand);
+        release_retired(&self.records, since, &mut self.images, pool, hand);
     }
 
     /// All images are given back, and the records are left.

@@ -1,15 +1,14 @@
 //! The images of a plan's nodes, by the numbers of the nodes.
 
-ghost use Rattle.std.specs.Prelude.{◌≡◌, ◌<◌, [], ◌∷◌, List, Option, Some, None, length, replicate, slice_set, is_some, IfOk};
+ghost use Rattle.std.specs.Prelude.{◌≡◌, ◌<◌, [], ◌∷◌, List, Option, Some, None, length, drop, replicate, slice_get, slice_set, IfOk, IfSome};
 ghost use Rattle.vf_frames.specs.Holders.{Keeps, SamePool};
-ghost use Rattle.vf_journal.specs.Records.{image_of};
-ghost use Rattle.vf_records.specs.Account.{records_in};
-ghost use Rattle.vf_book.specs.Book.{image_at, holders, IsBook, Covers, IsOf, AreOf, HandKept};
+ghost use Rattle.vf_book.specs.Book.{image_at, holders, retired_by, retired_in, without, IsBook, Lags, IsOf, AreOf, HandKept};
 
 use std::alloc::Global;
 use vf_base::{Memory, NodeNo};
 use vf_frames::Frames;
 use vf_image::{Image, Sim};
+use vf_journal::Entry;
 use vf_records::Records;
 
 /// As many places without an image as asked for.
@@ -57,21 +56,73 @@ pub(crate) fn give_back<F: Frames>(
     image.give_back(pool, hand);
 }
 
-/// Whether the records hold an image of a node.
-fn is_held(records: &Records, node: NodeNo) -> bool
-    ensures { result ≡ is_some (image_of (records_in records.now) node) }
+/// How many entries the journal has.
+pub(crate) fn entries(records: &Records) -> usize
+    ensures { result ≡ length records.now.journal }
 {
-    records.image(node).is_some()
+    records.journal().len()
 }
 
-/// Gives back the images that the records do not hold any more.
-pub(crate) fn release_unheld<F: Frames>(
-    records: &Records,
+/// The node whose image an entry retires.
+fn retired(entry: Entry) -> Option<NodeNo>
+    ensures { result ≡ retired_by entry }
+{
+    match entry {
+        Entry::Retire(node) => Some(node),
+        Entry::Start(_, _) => None,
+        Entry::Saved { .. } => None,
+        Entry::Pass { .. } => None,
+        Entry::End { .. } => None,
+        Entry::Pages { .. } => None,
+        Entry::Copy(_, _) => None,
+        Entry::Lost { .. } => None,
+        Entry::Short { .. } => None,
+        Entry::Evict(_) => None,
+        Entry::Rest => None,
+    }
+}
+
+/// The node whose image the entry of a place retires.
+fn retired_at(journal: &[Entry], at: usize) -> Option<NodeNo>
+    ensures { result ≡ retired_in (slice_get journal.now at) }
+{
+    let Some(entry) = journal.get(at) else {
+        return None;
+    };
+    retired(*entry)
+}
+
+/// Gives back the image of a node, if one is named.
+fn release_by<F: Frames>(
+    gone: Option<NodeNo>,
     images: &mut Vec<Option<Image<F>>>,
     pool: &mut F,
     hand: &mut F::Token,
 )
-    requires covers { Covers records.now images.old.items }
+    requires inside { IfSome gone (λ node. node.0 < length images.old.items) }
+    requires images { AreOf (F.name pool.old) images.old.items }
+    requires hand { (F.seen hand.old).name ≡ F.name pool.old }
+    ensures images { images.new.items ≡ without gone images.old.items }
+    ensures hand { HandKept (F.seen hand.old) (F.seen hand.new) }
+    ensures kept { Keeps (F.numbers pool.old) (F.seen hand.old ∷ holders images.old.items)
+        (F.numbers pool.new) (F.seen hand.new ∷ holders images.new.items) }
+    ensures pool { SamePool (F.name pool.old) (F.numbers pool.old) (F.name pool.new) (F.numbers pool.new) }
+{
+    let Some(node) = gone else {
+        return;
+    };
+    give_back(images, node, pool, hand);
+}
+
+/// Gives back the images that the entries from one on retire.
+pub(crate) fn release_retired<F: Frames>(
+    records: &Records,
+    since: usize,
+    images: &mut Vec<Option<Image<F>>>,
+    pool: &mut F,
+    hand: &mut F::Token,
+)
+    requires lags { Lags records.now images.old.items (drop since records.now.journal) }
     requires images { AreOf (F.name pool.old) images.old.items }
     requires hand { (F.seen hand.old).name ≡ F.name pool.old }
     ensures book { IsBook (record { account = records.now; images = images.new.items }) }
@@ -81,13 +132,9 @@ pub(crate) fn release_unheld<F: Frames>(
         (F.numbers pool.new) (F.seen hand.new ∷ holders images.new.items) }
     ensures pool { SamePool (F.name pool.old) (F.numbers pool.old) (F.name pool.new) (F.numbers pool.new) }
 {
-    let setup = records.setup();
-    let plan = &setup.plan;
-    for at in 0..plan.nodes.len() {
-        let node = NodeNo(at as u32);
-        if !is_held(records, node) {
-            give_back(images, node, pool, hand);
-        }
+    let journal = records.journal();
+    for at in since..journal.len() {
+        release_by(retired_at(journal, at), images, pool, hand);
     }
 }
 
@@ -114,15 +161,16 @@ pub(crate) fn release_all<F: Frames>(
     }
 }
 
-/// Gives back a simulator, and then the images that the records do not hold any more.
+/// Gives back a simulator, and then the images that the entries from one on retire.
 pub(crate) fn end_attempt<F: Frames>(
     records: &Records,
+    since: usize,
     images: &mut Vec<Option<Image<F>>>,
     pool: &mut F,
     hand: &mut F::Token,
     sim: Sim<F>,
 )
-    requires covers { Covers records.now images.old.items }
+    requires lags { Lags records.now images.old.items (drop since records.now.journal) }
     requires images { AreOf (F.name pool.old) images.old.items }
     requires hand { (F.seen hand.old).name ≡ F.name pool.old }
     requires sim { sim.pages.holder.name ≡ F.name pool.old }
@@ -134,5 +182,5 @@ pub(crate) fn end_attempt<F: Frames>(
     ensures pool { SamePool (F.name pool.old) (F.numbers pool.old) (F.name pool.new) (F.numbers pool.new) }
 {
     drop(sim.give_back(pool, hand));
-    release_unheld(records, images, pool, hand);
+    release_retired(records, since, images, pool, hand);
 }

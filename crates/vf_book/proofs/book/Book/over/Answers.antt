@@ -3,7 +3,7 @@ use Rattle.vf_journal.specs.declared.entry.Entry.TheVariants.{Pages}
 use Rattle.vf_journal.specs.Effects.{IsAlone}
 use Rattle.vf_records.specs.Account.{records_in}
 use Rattle.vf_book.specs.Book.{BookView, holders}
-use Rattle.vf_book.proofs.ImageLemmas.{covers_pages}
+use Rattle.vf_book.proofs.ImageLemmas.{lags_since, lags_pages}
 use Rattle.vf_book.proofs.CallLemmas.{made_of, inside_open, inside_images, outside_appends, outside_keeps, may_pass_budget, within_budget, serves_after}
 use Rattle.vf_book.proofs.book.Book.over.Goals as goal
 
@@ -16,10 +16,11 @@ pass_budget-requires g c =
     (subst (λ (v : BookView). IsAlone (records_in v.account) c.args.sim.job) (sym c.self.view_is) c.requires.alone)
     (subst (λ (v : BookView). (records_in v.account).held ≡ []) (sym c.self.view_is) c.requires.none)
 
-pub end_attempt-requires-clause-covers : goal.end_attempt-requires-clause-covers
-end_attempt-requires-clause-covers g c =
-    covers_pages c.self.inside.records c.pass_budget.new.self c.self.inside.images.items c.self.invariant c.stand-job.result.0 c.stand-job.result.1.turns c.args.pages
-    record { account = c.pass_budget.ensures.journal; records = c.pass_budget.ensures.records }
+pub end_attempt-requires-clause-lags : goal.end_attempt-requires-clause-lags
+end_attempt-requires-clause-lags g c =
+    lags_since c.self.inside.records c.pass_budget.new.self c.self.inside.images.items c.entries-since.result c.entries-since.ensures
+    (lags_pages c.self.inside.records c.pass_budget.new.self c.self.inside.images.items c.self.invariant c.stand-job.result.0 c.stand-job.result.1.turns c.args.pages
+    record { account = c.pass_budget.ensures.journal; records = c.pass_budget.ensures.records })
 
 pub end_attempt-requires-clause-images : goal.end_attempt-requires-clause-images
 end_attempt-requires-clause-images g c = inside_images c.self.inside.records c.self.inside.images.items c.args.self.now c.self.view_is (g.F.Frames.name c.args.pool.now) c.requires.pool.images

@@ -1,13 +1,14 @@
-use Rattle.std.proofs.Common.{◌∙◌, ◌∷◌, List, Option, sym, subst}
+use Rattle.std.proofs.Common.{◌∙◌, ◌∷◌, List, Option, drop, sym, subst}
 use Rattle.vf_frames.specs.Holders.{Keeps}
 use Rattle.vf_journal.specs.declared.entry.Entry.TheVariants.{Saved}
 use Rattle.vf_image.specs.Images.{Checkpoint}
 use Rattle.vf_jobs.specs.Jobs.{node_of}
-use Rattle.vf_book.specs.Book.{BookView, AreOf, Covers, Saves, holders}
+use Rattle.vf_book.specs.Book.{BookView, AreOf, Lags, Saves, holders}
 use Rattle.vf_book.proofs.HolderLemmas.{are_of-put, are_of-renamed, keeps-on, keeps-put}
 use Rattle.vf_book.proofs.CallLemmas.{made_of, inside_open, inside_images, outside_appends, outside_keeps, within_budget, serves_after}
+use Rattle.vf_book.proofs.ImageLemmas.{lags_since}
 use Rattle.vf_book.proofs.SaveLemmas.{place_empty}
-use Rattle.vf_book.proofs.PutLemmas.{planned_reach, node_inside, node_unsaved, base_there_for, may_save, counts_saved, covers_put, saves_node}
+use Rattle.vf_book.proofs.PutLemmas.{planned_reach, node_inside, node_unsaved, base_there_for, may_save, counts_saved, lags_put, saves_node}
 use Rattle.vf_book.proofs.book.Book.put_image.Goals as goal
 
 pub base_for-base-requires : goal.base_for-base-requires
@@ -49,19 +50,20 @@ save-requires-clause-counts g c = counts_saved c.self.inside.records c.self.insi
     (within_budget (g.F.Frames.name c.args.pool.now) c.args.self.now (g.F.Frames.seen c.args.hand.now) c.args.sim c.requires.pool c.requires.open c.requires.sim.name c.stand-job.ensures.within)
     c.keep-image.result c.keep-image.ensures.image c.own_pages.result c.own_pages.ensures.own c.own_pages.ensures.count c.own_pages.ensures.frames
 
-pub release_unheld-requires-clause-covers : goal.release_unheld-requires-clause-covers
-release_unheld-requires-clause-covers g c =
-    subst (λ (xs : List (Option Checkpoint)). Covers c.save.new.self xs) (sym c.put.ensures)
-    (covers_put c.self.inside.records c.self.inside.images.items c.self.invariant c.known.ensures c.args.sim
+pub release_retired-requires-clause-lags : goal.release_retired-requires-clause-lags
+release_retired-requires-clause-lags g c =
+    subst (λ (xs : List (Option Checkpoint)). Lags c.save.new.self xs (drop c.entries-since.result c.save.new.self.journal)) (sym c.put.ensures)
+    (lags_since c.self.inside.records c.save.new.self _ c.entries-since.result c.entries-since.ensures
+    (lags_put c.self.inside.records c.self.inside.images.items c.self.invariant c.known.ensures c.args.sim
     (inside_open c.self.inside.records c.self.inside.images.items c.args.self.now c.self.view_is c.args.sim c.requires.open) c.stand-job.ensures.kept
     c.stand-job.result.0 c.stand-job.result.1 c.stand-job.ensures.job c.stand-job.ensures.header c.node_of-node.result c.node_of-node.ensures c.requires.at_save
     c.args.kind c.base_for-base.result c.base_for-base.ensures c.requires.kind
     (within_budget (g.F.Frames.name c.args.pool.now) c.args.self.now (g.F.Frames.seen c.args.hand.now) c.args.sim c.requires.pool c.requires.open c.requires.sim.name c.stand-job.ensures.within)
     c.keep-image.result c.keep-image.ensures.image c.own_pages.result c.own_pages.ensures.own c.own_pages.ensures.count c.own_pages.ensures.frames
-    c.save.new.self record { account = c.save.ensures.journal; records = c.save.ensures.records })
+    c.save.new.self record { account = c.save.ensures.journal; records = c.save.ensures.records }))
 
-pub release_unheld-requires-clause-images : goal.release_unheld-requires-clause-images
-release_unheld-requires-clause-images g c =
+pub release_retired-requires-clause-images : goal.release_retired-requires-clause-images
+release_retired-requires-clause-images g c =
     let old = g.F.Frames.name c.args.pool.now in
     let new = g.F.Frames.name c.keep-image.new.pool in
     subst (λ (xs : List (Option Checkpoint)). AreOf new xs) (sym c.put.ensures)
@@ -86,20 +88,20 @@ returns-clause-entry g c =
 pub returns-clause-pool : goal.returns-clause-pool
 returns-clause-pool g c =
     let e = Saved c.node_of-node.result c.stand-job.result.1.turns c.own_pages.result c.base_for-base.result in
-    serves_after (g.F.Frames.name c.args.pool.now) (g.F.Frames.name c.release_unheld.new.pool) c.args.self.now (made_of c.save.new.self c.release_unheld.new.images.items)
-    (g.F.Frames.seen c.args.hand.now) (g.F.Frames.seen c.release_unheld.new.hand) e c.requires.pool
+    serves_after (g.F.Frames.name c.args.pool.now) (g.F.Frames.name c.release_retired.new.pool) c.args.self.now (made_of c.save.new.self c.release_retired.new.images.items)
+    (g.F.Frames.seen c.args.hand.now) (g.F.Frames.seen c.release_retired.new.hand) e c.requires.pool
     (outside_appends c.self.inside.records c.self.inside.images.items c.args.self.now c.self.view_is e c.save.new.self record { account = c.save.ensures.journal; records = c.save.ensures.records })
-    (c.release_unheld.ensures.pool.name ∙ c.keep-image.ensures.pool.name) c.release_unheld.ensures.hand.name c.release_unheld.ensures.images
+    (c.release_retired.ensures.pool.name ∙ c.keep-image.ensures.pool.name) c.release_retired.ensures.hand.name c.release_retired.ensures.images
 
 pub returns-clause-kept : goal.returns-clause-kept
 returns-clause-kept g c =
     let first = g.F.Frames.numbers c.args.pool.now in
     let between = g.F.Frames.numbers c.keep-image.new.pool in
-    let last = g.F.Frames.numbers c.release_unheld.new.pool in
+    let last = g.F.Frames.numbers c.release_retired.new.pool in
     let hand = g.F.Frames.seen c.args.hand.now in
     let sim = c.args.sim.pages.holder in
     let images = c.self.inside.images.items in
-    let after = g.F.Frames.seen c.release_unheld.new.hand ∷ holders c.release_unheld.new.images.items in
+    let after = g.F.Frames.seen c.release_retired.new.hand ∷ holders c.release_retired.new.images.items in
     let inside = node_inside c.self.inside.records c.self.inside.images.items c.self.invariant c.known.ensures c.args.sim
     (inside_open c.self.inside.records c.self.inside.images.items c.args.self.now c.self.view_is c.args.sim c.requires.open) c.stand-job.ensures.kept
     c.stand-job.result.0 c.stand-job.result.1 c.stand-job.ensures.job c.stand-job.ensures.header c.node_of-node.result c.node_of-node.ensures c.requires.at_save in
@@ -110,4 +112,4 @@ returns-clause-kept g c =
     (keeps-on first between last (hand ∷ sim ∷ holders images) (hand ∷ holders c.put.new.images.items) after
     (subst (λ (xs : List (Option Checkpoint)). Keeps first (hand ∷ sim ∷ holders images) between (hand ∷ holders xs)) (sym c.put.ensures)
     (keeps-put first between images c.node_of-node.result.0 c.keep-image.result hand sim inside (place_empty c.self.inside.records c.save.new.self images c.self.invariant c.node_of-node.result none) c.keep-image.ensures.kept))
-    c.release_unheld.ensures.kept)
+    c.release_retired.ensures.kept)
