@@ -1,5 +1,6 @@
 pub mod LayoutLemmas
 pub mod TableLemmas
+pub mod CountLemmas
 pub mod ReadyLemmas
 pub mod CopyLemmas
 pub mod RetireLemmas

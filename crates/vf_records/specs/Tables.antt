@@ -17,6 +17,8 @@ use Rattle.vf_records.specs.declared.row.Progress.{Progress}
 use Rattle.vf_records.specs.declared.row.Progress.TheVariants as rows
 use Rattle.vf_records.specs.declared.tables.Tables.{Tables}
 use Rattle.vf_records.specs.Layout.{place_in, IsLaidOut}
+use Rattle.vf_records.specs.Counts.{AreNumbered}
+pub use Rattle.vf_records.specs.Counts.{is_over_progress}
 
 -- ---- what the tables say
 
@@ -76,11 +78,6 @@ pub record HasRoom (t : Tables) : Type 0 where
 
 -- ---- what the tables keep
 
-abbrev pub is_over_progress : Progress → Bool
-is_over_progress rows.Idle = false
-is_over_progress (rows.Running attempt) = false
-is_over_progress rows.Over = true
-
 abbrev pub is_idle_progress : Progress → Bool
 is_idle_progress rows.Idle = true
 is_idle_progress (rows.Running attempt) = false
@@ -113,4 +110,5 @@ pub record AreTables (nodes : List Node) (counts : Held → Header) (t : Tables)
   pub within : All (λ (h : HeldImage). h.node.0 < length nodes) t.held.items
   pub imaged : AreImaged t.held.items t.images.items
   pub images : length t.images.items ≡ length nodes
+  pub numbered : AreNumbered nodes t.layout.jobs.items t.progress.items t.all.items t.done.items
   pub room : HasRoom t

@@ -13,6 +13,7 @@ ghost use Rattle.vf_records.specs.Account.{farm_of, solo_of};
 ghost use Rattle.vf_records.specs.Spreads.{spread_seen};
 ghost use Rattle.vf_records.specs.Tables.{entries_ahead, kinds_with, held_of, records_of, AreOver, AreTables, is_over_progress};
 
+use crate::counts::{count_up, nodes};
 use crate::row::{HeldImage, Progress};
 use crate::spread::Spread;
 use crate::tables::Tables;
@@ -109,6 +110,7 @@ impl Tables {
         tell(&mut self.told, place, tells);
         know(&mut self.kinds, job, kind);
         self.first = over_from(&self.progress, self.first);
+        count_up(nodes(setup), node_of(job), &mut self.done);
         self.journal.push_reserved(entry);
     }
 
@@ -148,30 +150,16 @@ impl Tables {
         }
     }
 
-    /// Whether the job of a place stands below a node and is not over.
-    fn needs(&self, setup: &Setup, node: NodeNo, at: usize) -> bool
-        requires tables { AreTables setup.now.plan (solo_of setup.now).counts self.now }
-        requires at { at < length self.now.layout.jobs.items }
-        ensures { (job : Job) → slice_get self.now.layout.jobs.items at ≡ Some job
-            → result ≡ (subtree.is_below setup.now.plan node.0 (node_of job) && not (is_over ((records_of self.now).stages job))) }
-    {
-        if self.is_over_at(at) {
-            return false;
-        }
-        is_below(&setup.plan, node, node_of(self.layout.jobs[at]))
-    }
-
     /// Whether some job of a node's subtree is not over.
     fn is_needed(&self, setup: &Setup, node: NodeNo) -> bool
-        requires { AreTables setup.now.plan (solo_of setup.now).counts self.now }
+        requires tables { AreTables setup.now.plan (solo_of setup.now).counts self.now }
+        requires node { node.0 < length setup.now.plan }
         ensures { result ≡ is_needed (farm_of setup.now) (records_of self.now) node }
     {
-        for at in self.first..self.layout.jobs.len() {
-            if self.needs(setup, node, at) {
-                return true;
-            }
-        }
-        false
+        let at = node.0 as usize;
+        let done = self.done[at];
+        let all = self.all[at];
+        done < all
     }
 
     /// Gives back the image of a node.
@@ -201,7 +189,8 @@ impl Tables {
 
     /// Whether the image of a node is held and no job needs it.
     fn is_retired(&self, setup: &Setup, node: NodeNo) -> bool
-        requires { AreTables setup.now.plan (solo_of setup.now).counts self.now }
+        requires tables { AreTables setup.now.plan (solo_of setup.now).counts self.now }
+        requires node { node.0 < length setup.now.plan }
         ensures { result ≡ is_retired (farm_of setup.now) (records_of self.now) node }
     {
         if self.image(node).is_none() {

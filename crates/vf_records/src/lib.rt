@@ -6,6 +6,7 @@
 //! the records that the journal comes to (docs/FARM.md, "The journal").
 #![tactic(auto)]
 
+mod counts;
 mod events;
 mod evict;
 mod layout;

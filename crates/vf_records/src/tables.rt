@@ -6,6 +6,7 @@ ghost use Rattle.vf_jobs.specs.Jobs.{node_of};
 ghost use Rattle.vf_jobs.specs.Jobs as jobs;
 ghost use Rattle.vf_jobs.specs.Subtree.{is_below};
 
+use crate::counts::{counted, nodes};
 use crate::layout::{Layout, filled};
 use crate::row::{HeldImage, Progress};
 use std::alloc::Global;
@@ -26,6 +27,10 @@ pub(crate) struct Tables {
     pub(crate) held: Vec<HeldImage>,
     /// The image of each node, where it is held.
     pub(crate) images: Vec<Option<HeldImage>>,
+    /// How many jobs there are in each node's subtree.
+    pub(crate) all: Vec<usize>,
+    /// How many of these are over.
+    pub(crate) done: Vec<usize>,
     pub(crate) journal: Vec<Entry>,
 }
 
@@ -63,6 +68,8 @@ impl Tables {
         let kinds = filled(alloc, Kind::Unknown, setup.plan.nodes.len())?;
         let held = Vec::with_capacity(alloc, most)?;
         let images = filled(alloc, None, setup.plan.nodes.len())?;
+        let all = counted(alloc, nodes(setup), &layout.jobs)?;
+        let done = filled(alloc, 0, setup.plan.nodes.len())?;
         let journal = Vec::with_capacity(alloc, most)?;
         Ok(Tables {
             layout,
@@ -72,6 +79,8 @@ impl Tables {
             first: 0,
             held,
             images,
+            all,
+            done,
             journal,
         })
     }

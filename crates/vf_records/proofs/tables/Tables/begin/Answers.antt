@@ -1,4 +1,4 @@
-use Rattle.std.proofs.Common.{◌≡◌, ℕ, ◌<◌, ◌≤◌, ◌+◌, ◌*◌, ◌∙◌, [], ◌∷◌, Some, length, sym, ap, subst, arith, slice_get, slice_set, get_or, sum_by, length-append}
+use Rattle.std.proofs.Common.{◌≡◌, ℕ, ◌<◌, ◌≤◌, ◌+◌, ◌*◌, ◌∙◌, [], ◌∷◌, Some, length, refl, sym, ap, subst, arith, slice_get, slice_set, get_or, sum_by, length-append}
 use Rattle.std.proofs.lemmas.List.{length-set}
 use Rattle.vf_journal.specs.declared.entry.Entry.TheVariants.{Start}
 use Rattle.vf_journal.specs.Records.{Attempt, running}
@@ -7,6 +7,7 @@ use Rattle.vf_records.specs.declared.row.Progress.TheVariants as rows
 use Rattle.vf_records.specs.Account.{solo_of}
 use Rattle.vf_records.specs.Layout.{place_in}
 use Rattle.vf_records.specs.Tables.{records_of, to_come, is_over_progress}
+use Rattle.vf_records.proofs.CountLemmas.{over_same}
 use Rattle.vf_records.proofs.TableLemmas.{quiet_run}
 use Rattle.vf_records.proofs.EventLemmas.{placed_job, ready_job, idle_at, idle_not_over, over_run, used, begun_with}
 use Rattle.vf_records.proofs.tables.Tables.begin.Goals as goal
@@ -103,5 +104,14 @@ returns-clause-tables c =
       within = kept.within;
       imaged = kept.imaged;
       images = kept.images;
+      numbered = record {
+        all_long = kept.numbered.all_long;
+        done_long = kept.numbered.done_long;
+        all_counted = kept.numbered.all_counted;
+        done_counted = λ n.
+            kept.numbered.done_counted n
+            ∙ sym (over_same s.plan n t.layout.jobs.items t.progress.items k (rows.Running attempt) refl
+            (ap (λ m. is_over_progress (get_or t.progress.items m rows.Idle)) same ∙ idle_not_over (get_or t.progress.items p rows.Idle) idle));
+      };
       room = record { most = omega (arith, longer, less, most); journal = omega (arith, room, c.push_reserved.ensures.capacity); held = kept.room.held };
     }

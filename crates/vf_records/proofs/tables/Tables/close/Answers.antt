@@ -1,8 +1,13 @@
-use Rattle.std.proofs.Common.{◌≡◌, ℕ, ◌<◌, ◌≤◌, ◌+◌, ◌*◌, ◌∙◌, [], ◌∷◌, Some, length, sym, ap, subst, arith, slice_get, slice_set, sum_by, length-append}
+use Rattle.std.proofs.Common.{◌≡◌, ℕ, ◌<◌, ◌≤◌, ◌+◌, ◌*◌, ◌^◌, ◌∙◌, List, [], ◌∷◌, Some, length, sym, ap, ap₂, subst, arith, slice_get, slice_set, get_or, sum_by, length-append}
 use Rattle.std.proofs.lemmas.Bool.{false≢true}
 use Rattle.std.proofs.lemmas.List.{length-set}
 use Rattle.vf_records.specs.declared.row.Progress.TheVariants as rows
+use Rattle.vf_plan.specs.declared.plan.Node.{Node}
+use Rattle.vf_plan.specs.Rules.{IsPlan}
+use Rattle.vf_jobs.specs.Subtree.{is_below}
 use Rattle.vf_records.specs.Account.{solo_of}
+use Rattle.vf_records.specs.Counts.{is_over_progress, one, over_below}
+use Rattle.vf_records.proofs.CountLemmas.{one_most, over_more, over_within}
 use Rattle.vf_records.specs.Layout.{place_in}
 use Rattle.vf_records.specs.Tables.{to_come, IsQuiet}
 use Rattle.vf_records.proofs.TableLemmas.{quiet_set}
@@ -30,6 +35,20 @@ over_from-self-requires c =
     let t = c.args.self.now in
     let placed = placed_job c.args.setup.now (solo_of c.args.setup.now).counts t c.requires.tables c.args.job c.requires.job in
     over_set t.progress.items c.place-place.result t.first (omega (arith, placed.progress, c.place-place.ensures)) c.requires.tables.first
+
+pub count_up-requires-clause-plan : goal.count_up-requires-clause-plan
+count_up-requires-clause-plan c = subst IsPlan (sym c.nodes.ensures.nodes) c.nodes.ensures.kept.plan
+
+pub count_up-requires-clause-at : goal.count_up-requires-clause-at
+count_up-requires-clause-at c =
+    let placed = placed_job c.args.setup.now (solo_of c.args.setup.now).counts c.args.self.now c.requires.tables c.args.job c.requires.job in
+    let node = placed.node in
+    let long = c.requires.tables.layout.long in
+    let same = ap (λ (ns : List Node). length ns) c.nodes.ensures.nodes in
+    omega (arith, node, long, same, c.node_of.ensures)
+
+pub count_up-requires-clause-length : goal.count_up-requires-clause-length
+count_up-requires-clause-length c = c.requires.tables.numbered.done_long ∙ sym (ap (λ (ns : List Node). length ns) c.nodes.ensures.nodes)
 
 pub push_reserved-requires : goal.push_reserved-requires
 push_reserved-requires c =
@@ -86,6 +105,21 @@ returns-clause-tables c =
       within = kept.within;
       imaged = kept.imaged;
       images = kept.images;
+      numbered = record {
+        all_long = kept.numbered.all_long;
+        done_long = c.count_up.ensures.length ∙ ap (λ (ns : List Node). length ns) c.nodes.ensures.nodes;
+        all_counted = kept.numbered.all_counted;
+        done_counted = λ n.
+            c.count_up.ensures.counted n
+            (let is = kept.numbered.done_counted n in
+            let most = over_within s.plan n t.layout.jobs.items t.progress.items in
+            let step = one_most (is_below c.nodes.result.now n c.node_of.result.0) in
+            omega (arith, is, most, step, t.layout.jobs.ok.0))
+            ∙ ap₂ (λ (k : ℕ) (ns : List Node). k + one (is_below ns n c.node_of.result.0)) (kept.numbered.done_counted n) c.nodes.ensures.nodes
+            ∙ ap (λ m. over_below s.plan n t.layout.jobs.items t.progress.items + one (is_below s.plan n m)) c.node_of.ensures
+            ∙ sym (over_more s.plan n t.layout.jobs.items t.progress.items k c.args.job (ap (slice_get t.layout.jobs.items) same ∙ placed.at) progress
+            (ap (λ m. is_over_progress (get_or t.progress.items m rows.Idle)) same ∙ not_over_at s (solo_of s).counts t kept c.args.job c.requires.job c.requires.left));
+      };
       room = record { most = omega (arith, longer, less, most); journal = omega (arith, room, c.push_reserved.ensures.capacity); held = kept.room.held };
     }
 

@@ -57,6 +57,7 @@ returns-clause-tables c =
           (imaged_less t.held.items t.images.items c.args.node kept.imaged
           (let images = kept.images in let inside = within_found t.held.items (length s.plan) c.args.node.0 kept.within c.requires.image in omega (arith, images, inside))));
       images = ap length c.release.ensures.images ∙ length-set t.images.items c.args.node.0 None ∙ kept.images;
+      numbered = kept.numbered;
       room = record {
         most = omega (arith, less, left, old, longer, most);
         journal = omega (arith, room, wide, c.push_reserved.ensures.capacity);

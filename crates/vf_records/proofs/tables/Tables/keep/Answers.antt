@@ -53,6 +53,7 @@ retire-requires c =
           (imaged_more x.held.items x.images.items image kept.imaged (omega (arith, node, long, kept.images))
           (none_rows x.held.items image.node.0 (ap (λ (r : Records). find (λ (h : Held). h.node.0 == image.node.0) r.held) c.close.ensures.records ∙ c.requires.free))));
       images = ap length c.show.ensures ∙ length-set x.images.items image.node.0 (Some image) ∙ kept.images;
+      numbered = kept.numbered;
       room = record {
         most = omega (arith, slack, most, longer, same);
         journal = kept.room.journal;

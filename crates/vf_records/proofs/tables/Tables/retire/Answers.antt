@@ -12,6 +12,9 @@ loop-at-init c =
     let at : length s.plan ≡ c.len-at.result = omega (arith, long, c.len-at.ensures, c.plan.inside.nodes.ok.0) in
     subst (λ (n : ℕ). AreRetired s (solo_of s).counts c.args.self.now c.args.self.now n) at (retired_first s (solo_of s).counts c.args.self.now c.requires)
 
+pub is_retired-requires-clause-node : goal.is_retired-requires-clause-node
+is_retired-requires-clause-node c = let within = c.loop-at.invariant.within in omega (arith, within, c.loop-at-test.true)
+
 pub loop-at-preserved-then-is_retired : goal.loop-at-preserved-then-is_retired
 loop-at-preserved-then-is_retired c =
     let s = c.args.setup.now in
