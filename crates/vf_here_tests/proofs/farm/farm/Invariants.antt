@@ -1,4 +1,4 @@
-use Rattle.vf_here_tests.proofs.whole.tells.Given as goal
+use Rattle.vf_here_tests.proofs.farm.farm.Given as goal
 
 -- the ledger that the blank names
 abbrev pub ghosts-run : goal.ghosts-run
