@@ -2,4 +2,4 @@ use Rattle.vf_here_tests.proofs.farm.farm.Given as goal
 
 -- the ledger that the blank names
 abbrev pub ghosts-run : goal.ghosts-run
-ghosts-run g a = record { name = a.blank.name; parts = a.blank.parts }
+ghosts-run a = record { name = a.blank.name; parts = a.blank.parts }
