@@ -39,7 +39,7 @@ pub enum Refusal {
     #[error("the plan is refused: {0:?}")]
     WrongPlan(PlanFault),
     /// Mode solo names no test of the plan.
-    #[error("the plan has no test {0:?}")]
+    #[error("the plan has nothing to run of the name {0:?}")]
     NoTest(Text),
     /// The output took less than the whole text.
     #[error("the output was not written")]
