@@ -18,7 +18,7 @@ fn add(
         let after = format!(in alloc; ",\"after\":\"c{chain}_{above}\"")?;
         plan.push_str(after.as_str())?;
     }
-    if at + 1 == depth {
+    if at.saturating_add(1) == depth {
         plan.push_str(",\"test\":true")?;
     }
     plan.push_str("}")

@@ -85,16 +85,13 @@ fn counts(alloc: Global, journal: &[Entry]) -> Result<String, Memory> {
     )?)
 }
 
-/// The last line of a text whose lines end with a newline.
-fn last_line(text: &[u8]) -> &[u8] {
-    let mut at = text.len().saturating_sub(1);
-    while at > 0 {
-        if text[at - 1] == b'\n' {
-            return &text[at..];
-        }
-        at -= 1;
+/// The last line of a text, without its newline.
+fn last_line(text: &str) -> &str {
+    let mut last = "";
+    for line in text.lines() {
+        last = line;
     }
-    text
+    last
 }
 
 /// The report and the journal of a farm, or the last line of the one and the counts of the other.
@@ -117,7 +114,10 @@ pub fn farm(
         text.extend_from_slice(&journal)?;
         return Ok(text);
     }
-    let mut text = Vec::from_slice(alloc, last_line(&report))?;
-    text.extend_from_slice(counts(alloc, records.journal())?.as_bytes())?;
+    let report = String::from_utf8_lossy(alloc, &report)?;
+    let counts = counts(alloc, records.journal())?;
+    let mut text = Vec::from_slice(alloc, last_line(report.as_str()).as_bytes())?;
+    text.push(b'\n')?;
+    text.extend_from_slice(counts.as_bytes())?;
     Ok(text)
 }
