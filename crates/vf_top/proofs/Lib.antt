@@ -3,6 +3,7 @@ pub mod ReadLemmas
 pub mod WorkLemmas
 pub mod WriteLemmas
 pub mod SayLemmas
+pub mod FarmLemmas
 pub mod FileLemmas
 pub mod LineLemmas
 pub mod TotalLemmas

@@ -95,6 +95,7 @@ fn setup_of(alloc: Global, command: &Command, design: Design, plan: Plan) -> Res
 }
 
 /// Mode run: runs the farm, and makes its report.
+#[tactic(auto, using(crate::proofs::FarmLemmas::farm_gives))]
 pub fn farm_lines<L: Ledger>(
     alloc: Global,
     command: &Command,
