@@ -57,12 +57,12 @@ fn given(words: &str) -> Given {
 
 /// Does what each line of a file says.
 pub fn tell_all<W: Write>(out: &mut W, alloc: Global, text: &str) -> io::Result<()> {
-    let mut design = "";
+    let mut design = String::new(alloc);
     let mut plan = String::new(alloc);
     for line in text.lines() {
         let (word, rest) = line.split_once(' ').unwrap_or((line, ""));
         if word == "design" {
-            design = rest;
+            design = String::from_str(alloc, rest)?;
         } else if word == "plan" {
             plan = String::from_str(alloc, rest)?;
         } else if word == "chains" {
@@ -72,9 +72,14 @@ pub fn tell_all<W: Write>(out: &mut W, alloc: Global, text: &str) -> io::Result<
             out.write_all(line.as_bytes())?;
             out.write_all(b"\n")?;
             if word == "run" || word == "count" {
-                let told = farm(alloc, design, plan.as_str(), given(rest), word == "run").map_err(
-                    out_of_memory,
-                )?;
+                let told = farm(
+                    alloc,
+                    design.as_str(),
+                    plan.as_str(),
+                    given(rest),
+                    word == "run",
+                )
+                .map_err(out_of_memory)?;
                 out.write_all(&told)?;
             }
         }

@@ -85,11 +85,11 @@ fn counts(alloc: Global, journal: &[Entry]) -> Result<String, Memory> {
     )?)
 }
 
-/// The last line of a text, without its newline.
-fn last_line(text: &str) -> &str {
-    let mut last = "";
+/// The bytes of the last line of a text, without its newline.
+fn last_line(text: &str) -> &[u8] {
+    let mut last = b"".as_slice();
     for line in text.lines() {
-        last = line;
+        last = line.as_bytes();
     }
     last
 }
@@ -116,7 +116,7 @@ pub fn farm(
     }
     let report = String::from_utf8_lossy(alloc, &report)?;
     let counts = counts(alloc, records.journal())?;
-    let mut text = Vec::from_slice(alloc, last_line(report.as_str()).as_bytes())?;
+    let mut text = Vec::from_slice(alloc, last_line(report.as_str()))?;
     text.push(b'\n')?;
     text.extend_from_slice(counts.as_bytes())?;
     Ok(text)
