@@ -14,5 +14,5 @@ mod turn;
 
 pub use code::{Condition, Instr};
 pub use design::{Design, words_at_zero};
-pub use turn::{Turn, Words};
-pub use vf_machine::Mark;
+pub use turn::Turn;
+pub use vf_machine::{Mark, Words};

@@ -1,5 +1,7 @@
 -- What proofs of the crates above may use: what is told of an expression is its fold, and each node tells it by its parts; a value has
 -- the shape of its expression; the lengths of lists of bits.
 pub use Rattle.vf_elaborated.proofs.NodeLemmas.{told_is_fold, told_by_node}
-pub use Rattle.vf_elaborated.proofs.Shaped.{values_shaped}
+pub use Rattle.vf_elaborated.proofs.Shaped.{told_roll, values_shaped}
 pub use Rattle.vf_elaborated.proofs.OperatorShapes.{zip_length, chosen_length, digits_length}
+-- where the elements of signals stand among the words, and what is read there
+pub use Rattle.vf_elaborated.proofs.LayoutLemmas.{values_fit, there, address_ends, drivers_small, address_read}

@@ -1,4 +1,5 @@
 mod NodeLemmas
 mod OperatorShapes
 mod Shaped
+mod LayoutLemmas
 pub mod CallerLemmas

@@ -3,5 +3,6 @@ pub mod Nodes
 pub mod Values
 pub mod Shapes
 pub mod WellFormed
+pub mod Layout
 pub mod Inner
 pub mod Laws

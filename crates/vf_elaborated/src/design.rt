@@ -1,11 +1,14 @@
-ghost use Rattle.std.specs.Prelude.{◌≡◌};
+ghost use Rattle.std.specs.Prelude.{◌≡◌, ◌<◌, ◌^◌, IfOk};
 ghost use Rattle.vf_elaborated.specs.Elaborated.{Elaborated};
 ghost use Rattle.vf_elaborated.specs.WellFormed.{IsWellFormed};
+ghost use Rattle.vf_elaborated.specs.Layout.{value_size, places_from, end_from, IsElement, address_of};
 
+use crate::layout::{FRONT_WORDS, PROCESS_WORDS};
 use crate::{Expr, Instr};
 use sqlite_items::Items;
+use std::alloc::Global;
 use std::marker::Model;
-use vf_base::Text;
+use vf_base::{Memory, SigNo, Text};
 use vf_format::Form;
 
 /// A variable or a net of the design (clauses 4.2, 4.3 and 4.9).
@@ -70,6 +73,8 @@ pub struct Design {
     pub slots: u32,
     /// How many processes are continuous assignments.
     pub drivers: u32,
+    /// The address of the first word of each signal.
+    places: Items<u32>,
 }
 
 // Clauses see the parts as plain data.
@@ -91,25 +96,59 @@ impl Model for Design {
 }
 
 impl Design {
-    /// A design from its parts.
+    /// A design from its parts. The only refusal is that it is out of memory.
     pub fn new(
+        alloc: Global,
         top: Text,
         signals: Items<Signal>,
         processes: Items<Process>,
         shows: Items<Show>,
         slots: u32,
         drivers: u32,
-    ) -> Design
+    ) -> Result<Design, Memory>
         requires { IsWellFormed (record { top = top; signals = signals; processes = processes; shows = shows; slots = slots; drivers = drivers }) }
-        ensures { result ≡ record { top = top; signals = signals; processes = processes; shows = shows; slots = slots; drivers = drivers } }
+        ensures { IfOk result (λ design. design ≡ record { top = top; signals = signals; processes = processes; shows = shows; slots = slots; drivers = drivers }) }
     {
-        Design {
+        let begin = FRONT_WORDS + PROCESS_WORDS * processes.len() as u32;
+        let places = places(alloc, begin, signals.as_slice())?;
+        Ok(Design {
             top,
             signals,
             processes,
             shows,
             slots,
             drivers,
-        }
+            places,
+        })
     }
+
+    /// The address of the first word of a signal's element, in words from 0.
+    pub fn address_of(&self, sig: SigNo, element: u32) -> u32
+        requires { IsElement self.now sig.0 element }
+        ensures { result ≡ address_of self.now sig.0 element }
+    {
+        let signal = &self.signals.as_slice()[sig.0 as usize];
+        self.places.as_slice()[sig.0 as usize] + element * value_size(signal.width)
+    }
+}
+
+/// How many words a value of a width has.
+fn value_size(width: u32) -> u32
+    ensures { result ≡ value_size width }
+{
+    if 64 < width { 4 } else { 2 }
+}
+
+/// The first word of each signal, the first signal at an address.
+fn places(alloc: Global, begin: u32, signals: &[Signal]) -> Result<Items<u32>, Memory>
+    requires few { end_from begin signals.now < 2 ^ 32 }
+    ensures { IfOk result (λ places. places ≡ places_from begin signals.now) }
+{
+    let mut places = Items::new(alloc);
+    let mut at = begin;
+    for signal in signals {
+        places.push(at)?;
+        at += signal.elements * value_size(signal.width);
+    }
+    Ok(places)
 }

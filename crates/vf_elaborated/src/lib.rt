@@ -10,6 +10,7 @@ mod code;
 mod design;
 mod expr;
 pub mod laws;
+pub mod layout;
 
 pub use code::{Edge, Event, Instr, MatchKind, ShowKind, Target, TargetPiece};
 pub use design::{Design, Piece, Process, Show, Signal};

@@ -3,3 +3,4 @@ pub mod PlaneLemmas
 pub mod ListLemmas
 pub mod NumberLemmas
 pub mod OperatorLemmas
+pub mod CallerLemmas

@@ -3,6 +3,7 @@ use Rattle.std.proofs.Common.{◌≡◌, ℕ, zero, suc, ◌+◌, ◌-◌, ◌*�
 use Rattle.std.specs.Prelude.{ℤ, pos, negsuc, ◌+ℤ◌, ◌-ℤ◌, ◌*ℤ◌, neg_ℤ, int_lt, int_div, int_rem, unsigned_abs}
 use Rattle.std.specs.List.{list_all}
 use Rattle.std.specs.Int.{int_rem_euclid}
+use Rattle.std.specs.Option.{option_and_then}
 use Rattle.std.proofs.Math.Nat.{pow-suc, mul-le-mul_left}
 use Rattle.std.proofs.Math.Pow.{mod-mod-pow, pow_mono}
 use mathlib.Core.Bool.{beq}
@@ -10,12 +11,12 @@ use lib.IntN.{*ℤ_comm}
 use borrow.Author.Differences.{up, down, same_in, same_out, sum_is_lem, neg_is, product_is}
 use Rattle.std.proofs.lemmas.Int.{ints, int_rem_euclid_is}
 use Rattle.std.proofs.lemmas.Nat.{pow_pos, pow-add}
-use Rattle.std.proofs.lemmas.Bool.{cases_lt, and_parts, and_left, and_right, and_from, cases_Bool, cond-true, cond-false}
+use Rattle.std.proofs.lemmas.Bool.{cases_lt, and_parts, and_left, and_right, and_from, ltb-true, cases_Bool, cond-true, cond-false}
 use Rattle.vf_fours.specs.declared.Bit.{Bit}
 use Rattle.vf_fours.specs.declared.Bit.TheVariants.{Zero, One, X, Z}
 use Rattle.vf_fours.specs.declared.planes.Planes.{Planes}
 use Rattle.vf_fours.specs.Bits.{FourState, is_one, is_zero, bit_in, top, all_known}
-use Rattle.vf_fours.specs.Numbers.{weight_of, of_one, number, integer, residue, bit_is, digit, digits_of, wrapped_bits, with_sign, is_below_zero, fits_i64, i64_of}
+use Rattle.vf_fours.specs.Numbers.{weight_of, of_one, number, integer, residue, bit_is, digit, digits_of, wrapped_bits, with_sign, is_below_zero, fits, fitting, narrower}
 use Rattle.vf_fours.specs.Planes.{ones_of, Shows}
 use Rattle.vf_fours.specs.Shapes.{ones_of-bits_of}
 use Rattle.vf_fours.proofs.PlaneLemmas.{bit_at-mod}
@@ -251,14 +252,33 @@ pub positive_is : (z : ℤ) (m : ℕ) → m ≡ unsigned_abs z → is_below_zero
 positive_is (pos n) m e h = ap pos (sym e)
 positive_is (negsuc n) m e h = absurd (cc h)
 
-pub i64_of-unknown : (a : FourState) → all_known a.bits ≡ false → ◌≡◌ {A = Option ℤ} None (i64_of a)
-unfolding i64_of
-i64_of-unknown a h = sym (cond-false _ _ _ (and_left (all_known a.bits) _ h))
+pub unknown_fits_not : (n : ℕ) (a : FourState) → all_known a.bits ≡ false → ◌≡◌ {A = Option ℤ} None (fitting n a)
+unfolding fitting
+unknown_fits_not n a h = sym (cond-false _ _ _ (and_left (all_known a.bits) _ h))
 
-pub i64_of-some : (a : FourState) (z : ℤ) → all_known a.bits ≡ true → integer a.signed a.bits ≡ z → fits_i64 z ≡ true → Some z ≡ i64_of a
-unfolding i64_of
-i64_of-some a z h e f = ap Some (sym e) ∙ sym (cond-true _ _ _ (and_from (all_known a.bits) _ h (ap fits_i64 e ∙ f)))
+pub known_fits : (n : ℕ) (a : FourState) (z : ℤ) → all_known a.bits ≡ true → integer a.signed a.bits ≡ z → fits n z ≡ true → Some z ≡ fitting n a
+unfolding fitting
+known_fits n a z h e f = ap Some (sym e) ∙ sym (cond-true _ _ _ (and_from (all_known a.bits) _ h (ap (fits n) e ∙ f)))
 
-pub i64_of-none : (a : FourState) (z : ℤ) → integer a.signed a.bits ≡ z → fits_i64 z ≡ false → ◌≡◌ {A = Option ℤ} None (i64_of a)
-unfolding i64_of
-i64_of-none a z e f = sym (cond-false _ _ _ (and_right (all_known a.bits) _ (ap fits_i64 e ∙ f)))
+pub large_fits_not : (n : ℕ) (a : FourState) (z : ℤ) → integer a.signed a.bits ≡ z → fits n z ≡ false → ◌≡◌ {A = Option ℤ} None (fitting n a)
+unfolding fitting
+large_fits_not n a z e f = sym (cond-false _ _ _ (and_right (all_known a.bits) _ (ap (fits n) e ∙ f)))
+
+-- what fits into fewer bits fits into more
+fits_more : (z : ℤ) → fits 63 z ≡ true → fits 127 z ≡ true
+fits_more (pos n) h = lt-ltb n (2 ^ 127) (let small : n < 2 ^ 63 = ltb-true n (2 ^ 63) h in omega arith)
+fits_more (negsuc n) h = lt-ltb n (2 ^ 127) (let small : n < 2 ^ 63 = ltb-true n (2 ^ 63) h in omega arith)
+
+narrower_by : (known large small : Bool) (z : ℤ) → (small ≡ true → large ≡ true) → fits 63 z ≡ small
+    → option_and_then narrower (cond (known && large) (Some z) None) ≡ cond (known && small) (Some z) None
+narrower_by true true small z more is = ap (λ b. cond b (Some z) None) is
+narrower_by true false true z more is = absurd (cc (more refl))
+narrower_by true false false z more is = refl
+narrower_by false large small z more is = refl
+
+-- the number in fewer bits is that in more, where it fits
+pub narrower_fits : (a : FourState) → option_and_then narrower (fitting 127 a) ≡ fitting 63 a
+unfolding fitting
+narrower_fits a =
+    let z = integer a.signed a.bits in
+    narrower_by (all_known a.bits) (fits 127 z) (fits 63 z) z (fits_more z) refl

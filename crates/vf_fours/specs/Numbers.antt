@@ -51,16 +51,26 @@ wrapped_bits width z = digits_of width (residue width z)
 unfoldable pub u128_of : FourState → Option ℕ
 u128_of a = if all_known a.bits then Some (number a.bits) else None
 
--- the integer lies from -2^63 to 2^63 - 1
-abbrev pub fits_i64 : ℤ → Bool
-fits_i64 (pos n) = nat_lt n (2 ^ 63)
-fits_i64 (negsuc n) = nat_lt n (2 ^ 63)
+-- the integer lies from -2^n to 2^n - 1
+abbrev pub fits : ℕ → ℤ → Bool
+fits n (pos z) = nat_lt z (2 ^ n)
+fits n (negsuc z) = nat_lt z (2 ^ n)
 
 -- the number of a value by its mark, where no bit is x or z and it fits
-unfoldable pub i64_of : FourState → Option ℤ
-i64_of a =
+unfoldable pub fitting : ℕ → FourState → Option ℤ
+fitting n a =
     let z = integer a.signed a.bits in
-    if all_known a.bits && fits_i64 z then Some z else None
+    if all_known a.bits && fits n z then Some z else None
+
+-- the number, where it fits an i64
+abbrev pub narrower : ℤ → Option ℤ
+narrower z = if fits 63 z then Some z else None
+
+abbrev pub i64_of : FourState → Option ℤ
+i64_of = fitting 63
+
+abbrev pub i128_of : FourState → Option ℤ
+i128_of = fitting 127
 
 -- the number, or its opposite
 abbrev pub with_sign : Bool → ℕ → ℤ

@@ -1,14 +1,18 @@
 //! Numbers: what known bits stand for, and the arithmetic operators.
 ghost use Rattle.std.specs.Prelude.{◌≡◌, ℕ, ◌^◌, ◌<◌, ◌≤◌, true, length, Some, None, if◌then◌else◌, pos, unsigned_abs};
+ghost use Rattle.std.specs.Option.{option_and_then};
 ghost use Rattle.vf_fours.specs.Bits.{all_known};
-ghost use Rattle.vf_fours.specs.Numbers.{number, integer, is_below_zero, with_sign, residue, u128_of, i64_of};
+ghost use Rattle.vf_fours.specs.Numbers.{number, integer, is_below_zero, with_sign, residue, u128_of, i64_of, i128_of, narrower};
 ghost use Rattle.vf_fours.specs.Operators.{add_of, sub_of, mul_of, div_of, rem_of, neg_of};
 
 use crate::Fours;
 use crate::planes::low_ones;
 
 /// One more than the greatest `i64`.
-const I64_HALF: u128 = 1 << 63;
+const I64_HALF: i128 = 1 << 63;
+
+/// One more than the greatest `i128`.
+const I128_HALF: u128 = 1 << 127;
 
 /// A number, or its opposite, modulo 2^128.
 fn with_sign(negative: bool, number: u128) -> u128
@@ -18,6 +22,16 @@ fn with_sign(negative: bool, number: u128) -> u128
         0u128.wrapping_sub(number)
     } else {
         number
+    }
+}
+
+/// The number, where it fits.
+fn narrowed(number: Option<i128>) -> Option<i64>
+    ensures { result ≡ option_and_then narrower number }
+{
+    match number {
+        Some(number) if -I64_HALF <= number && number < I64_HALF => Some(number as i64),
+        _ => None,
     }
 }
 
@@ -153,8 +167,8 @@ impl Fours {
     }
 
     /// The number by the mark; None where a bit is x or z, or where it does not fit.
-    pub fn to_i64(self) -> Option<i64>
-        ensures { result ≡ i64_of self }
+    pub fn to_i128(self) -> Option<i128>
+        ensures { result ≡ i128_of self }
     {
         if !self.is_known() {
             return None;
@@ -163,15 +177,22 @@ impl Fours {
         let magnitude = self.magnitude(signed);
         if self.is_negative(signed) {
             let below = magnitude - 1;
-            if below < I64_HALF {
-                Some(-1 - below as i64)
+            if below < I128_HALF {
+                Some(-1 - below as i128)
             } else {
                 None
             }
-        } else if magnitude < I64_HALF {
-            Some(magnitude as i64)
+        } else if magnitude < I128_HALF {
+            Some(magnitude as i128)
         } else {
             None
         }
+    }
+
+    /// The number by the mark; None where a bit is x or z, or where it does not fit.
+    pub fn to_i64(self) -> Option<i64>
+        ensures { result ≡ i64_of self }
+    {
+        narrowed(self.to_i128())
     }
 }

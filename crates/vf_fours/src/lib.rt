@@ -142,6 +142,16 @@ impl Fours {
         Fours::low_bits(width, signed, Planes::all_x(width))
     }
 
+    /// The low bits of a number.
+    pub fn known(width: u32, signed: bool, number: u128) -> Fours
+        requires some { 1 ≤ width }
+        requires most { width ≤ WIDEST }
+        ensures value { result ≡ record { bits = digits_of width number; signed = signed } }
+        ensures width { length result.bits ≡ width }
+    {
+        Fours::low_bits(width, signed, Planes::known(number))
+    }
+
     /// A bit as a value: one bit wide, unsigned.
     pub fn of_bit(bit: Bit) -> Fours
         ensures { result ≡ one_bit bit }
@@ -168,6 +178,13 @@ impl Fours {
         ensures { result ≡ self.now.signed }
     {
         self.signed
+    }
+
+    /// The same bits with a mark.
+    pub fn marked(self, signed: bool) -> Fours
+        ensures { result ≡ record { bits = self.bits; signed = signed } }
+    {
+        Fours { signed, ..self }
     }
 
     /// The plane in which 1 and x are set. A known value is the number in it.
@@ -225,7 +242,7 @@ impl Fours {
         ensures value { result ≡ record { bits = digits_of (length self.bits) number; signed = signed } }
         ensures width { length result.bits ≡ length self.bits }
     {
-        self.with(signed, Planes::known(number))
+        Fours::known(self.width(), signed, number)
     }
 
     /// x at every place, at the width of this value.

@@ -5,7 +5,7 @@ unfolding
     Rattle.vf_fours.specs.Bits.zip_with Rattle.vf_fours.specs.Bits.tabulate Rattle.vf_fours.specs.Bits.all_known
     Rattle.vf_fours.specs.Choices.unary_of Rattle.vf_fours.specs.Choices.binary_of Rattle.vf_fours.specs.Numbers.weight_of
     Rattle.vf_fours.specs.Numbers.integer Rattle.vf_fours.specs.Numbers.residue Rattle.vf_fours.specs.Numbers.digits_of
-    Rattle.vf_fours.specs.Numbers.u128_of Rattle.vf_fours.specs.Numbers.i64_of Rattle.vf_fours.specs.Operators.bitwise_of
+    Rattle.vf_fours.specs.Numbers.u128_of Rattle.vf_fours.specs.Numbers.fitting Rattle.vf_fours.specs.Operators.bitwise_of
     Rattle.vf_fours.specs.Operators.wire_of Rattle.vf_fours.specs.Operators.not_of Rattle.vf_fours.specs.Operators.plus_of
     Rattle.vf_fours.specs.Operators.numeric_of Rattle.vf_fours.specs.Operators.divided_of Rattle.vf_fours.specs.Operators.neg_of
     Rattle.vf_fours.specs.Operators.shifted_of Rattle.vf_fours.specs.Operators.eq_of Rattle.vf_fours.specs.Operators.eqq_of
