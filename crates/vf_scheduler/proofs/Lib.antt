@@ -1,2 +1,5 @@
 mod Starts
 mod ReadLemmas
+mod Marks
+mod Queues
+mod Moves
