@@ -3,3 +3,8 @@ mod ReadLemmas
 mod Marks
 mod Queues
 mod Moves
+mod Held
+mod Processes
+mod Slots
+mod Codes
+mod Waking

@@ -238,13 +238,13 @@ goes_on m time at running a i n f t q high later = record { placed = q.placed; r
 
 -- ---- processes that wait become active
 
--- an event that wakes, or one that does not
-pub data Wakes (x : Item) (woken : List Item) (old new : Mark) : Type 0 where
-  wakes : times x woken ≡ 1 → old ≡ Nowhere → new ≡ InActive → Wakes x woken old new
-  sleeps : times x woken ≡ 0 → new ≡ old → Wakes x woken old new
+-- an event that wakes stands once among the new ones, and any other not at all
+pub data Wakes (count : ℕ) (old new : Mark) : Type 0 where
+  wakes : count ≡ 1 → old ≡ Nowhere → new ≡ InActive → Wakes count old new
+  sleeps : count ≡ 0 → new ≡ old → Wakes count old new
 
 pub wake_up : (m m' : Item → Mark) (time : ℕ) (running : Option ℕ) (a i n f t woken : List Item) → IsQueue m time running a i n f t
-    → ((x : Item) → Wakes x woken (m x) (m' x)) → IsQueue m' time running (a ++ woken) i n f t
+    → ((x : Item) → Wakes (times x woken) (m x) (m' x)) → IsQueue m' time running (a ++ woken) i n f t
 wake_up m m' time running a i n f t woken q each = record {
   placed = λ x. place x (each x) (q.placed x);
   running_is = λ p. same_runs (of_process p) (each (of_process p)) ∙ q.running_is p;
@@ -252,15 +252,15 @@ wake_up m m' time running a i n f t woken q each = record {
   early = q.early;
 }
   where
-    same_time : (x : Item) → Wakes x woken (m x) (m' x) → mark_time (m' x) ≡ mark_time (m x)
+    same_time : (x : Item) → Wakes (times x woken) (m x) (m' x) → mark_time (m' x) ≡ mark_time (m x)
     same_time x (wakes once old new) = ap mark_time new ∙ sym (ap mark_time old)
     same_time x (sleeps none same) = ap mark_time same
 
-    same_runs : (x : Item) → Wakes x woken (m x) (m' x) → runs (m' x) ≡ runs (m x)
+    same_runs : (x : Item) → Wakes (times x woken) (m x) (m' x) → runs (m' x) ≡ runs (m x)
     same_runs x (wakes once old new) = ap runs new ∙ sym (ap runs old)
     same_runs x (sleeps none same) = ap runs same
 
-    place : (x : Item) → Wakes x woken (m x) (m' x) → Placed (m x) (times x a) (times x i) (times x n) (times x f) (times x t)
+    place : (x : Item) → Wakes (times x woken) (m x) (m' x) → Placed (m x) (times x a) (times x i) (times x n) (times x f) (times x t)
         → Placed (m' x) (times x (a ++ woken)) (times x i) (times x n) (times x f) (times x t)
     place x (wakes once old new) h =
         let all = times-append x a woken in
