@@ -8,3 +8,8 @@ mod Processes
 mod Slots
 mod Codes
 mod Waking
+mod Assigned
+mod Driven
+mod Performed
+mod Regions
+mod Steps
