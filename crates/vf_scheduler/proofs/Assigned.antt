@@ -23,6 +23,7 @@ use Rattle.vf_scheduler.proofs.Codes.{list_all_at}
 
 pub record Sized (signal : Signal) : Type 0 where
   pub wide : 1 ≤ signal.width
+  pub most : signal.width ≤ WIDEST
   pub some : 1 ≤ signal.elements
 
 pub sized : (d : Elaborated) (sig : ℕ) (signal : Signal) → IsWellFormed d → slice_get d.signals sig ≡ Some signal → Sized signal
@@ -30,6 +31,7 @@ sized d sig signal wf e =
     let is = and_parts (is_width signal.width) (nat_le 1 signal.elements && (signal.memory || signal.elements == 1)) (list_all_at is_signal d.signals sig signal wf.signals e) in
     record {
       wide = leb-true 1 signal.width (and_parts (nat_le 1 signal.width) (nat_le signal.width WIDEST) is.0).0;
+      most = leb-true signal.width WIDEST (and_parts (nat_le 1 signal.width) (nat_le signal.width WIDEST) is.0).1;
       some = leb-true 1 signal.elements (and_parts (nat_le 1 signal.elements) (signal.memory || signal.elements == 1) is.1).0;
     }
 

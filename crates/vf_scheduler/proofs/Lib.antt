@@ -13,3 +13,7 @@ mod Driven
 mod Performed
 mod Regions
 mod Steps
+mod Values
+mod Entries
+mod Chains
+mod Telling

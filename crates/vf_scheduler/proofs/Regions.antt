@@ -18,7 +18,7 @@ use Rattle.vf_scheduler.proofs.Waking.{updated_held}
 
 -- ---- what stands where
 
-somewhere : (m : Mark) → 1 ≤ often m → m ≢ Nowhere
+pub somewhere : (m : Mark) → 1 ≤ often m → m ≢ Nowhere
 somewhere m some e = omega (arith, some, ap often e)
 
 record IsDueUpdate (slot : Slot) : Type 0 where
@@ -56,7 +56,7 @@ no_strobed_process Inactive a i n f t h some = omega (arith, h.there, h.alone, s
 no_strobed_process (Future at) a i n f t h some = omega (arith, h.there, h.alone, some)
 no_strobed_process Running a i n f t h some = omega (arith, h.alone, some)
 
-slot_within : (s : State) (q : ℕ) → mark_in s.threads s.slots (of_slot q) ≢ Nowhere → q < length s.slots
+pub slot_within : (s : State) (q : ℕ) → mark_in s.threads s.slots (of_slot q) ≢ Nowhere → q < length s.slots
 slot_within s q somewhere = ⊎_elim (λ lt. lt) (λ ge. absurd (somewhere (ap slot_mark (get_or_past s.slots q Free ge)))) (cases_lt q (length s.slots))
 
 same_place : (d : Elaborated) (s : State) (p : ℕ) → Shapes d s → IsPlace d p (thread_of s p).place
