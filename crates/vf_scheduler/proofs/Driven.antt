@@ -86,10 +86,6 @@ module _ (d : Elaborated) (wf : IsWellFormed d) where
 
   -- ---- the nets
 
-  known_signal : (piece : TargetPiece) (o : Option Signal) → is_piece_of piece o ≡ true → IsSomeAnd o (λ signal. o ≡ Some signal)
-  known_signal piece None h = absurd (false≢true h)
-  known_signal piece (Some signal) h = refl
-
   resolved_held : (piece : TargetPiece) (s : State) → is_piece d.signals piece ≡ true → Held d s → Held d (resolved d piece.sig.0 s)
   resolved_held piece s is h =
       by (slice_get d.signals piece.sig.0) refl (and_parts (is_piece_of piece (slice_get d.signals piece.sig.0)) _ is).0

@@ -17,3 +17,4 @@ mod Values
 mod Entries
 mod Chains
 mod Telling
+pub mod CallerLemmas

@@ -4,7 +4,7 @@ use Rattle.std.proofs.lemmas.Bool.{cases_Bool}
 use Rattle.std.specs.Prelude.{⊤}
 use Rattle.vf_scheduler.specs.State.{Item, of_process}
 use Rattle.vf_scheduler.specs.Sound.{same_item, times, names}
-use Rattle.vf_scheduler.proofs.Marks.{same_item_is, same_turned, times_other, Others, Mark, mark_time, runs, often, own, Placed, placed_same}
+use Rattle.vf_scheduler.proofs.Marks.{same_item_is, same_turned, times_other, Others, Mark, mark_time, runs, own, Placed, placed_same}
 
 -- times that rise, from a time on, and that a clock shows
 abbrev pub Between : ℕ → List ℕ → Type 0
@@ -32,10 +32,6 @@ counted k a a' i i' n n' f f' t t' ea ei en ef et h = record {
   there = (λ j. own k (ea j) (ei j) (en j) (ef j) (et j)) ∙ h.there;
   alone = omega (arith, ea, ei, en, ef, et, h.alone);
 }
-
--- what stands in a list has a mark of a region
-pub listed : (k : Mark) (a i n f t : ℕ) → Placed k a i n f t → 1 ≤ i + (n + (f + (t + a))) → 1 ≤ often k
-listed k a i n f t h some = omega (arith, h.alone, some)
 
 module _ (m m' : Item → Mark) (x : Item) (k : Mark) (change : Changes m m' x k) where
   pub times_kept : (f : List Item) → times x f ≡ 0 → times_by m' f ≡ times_by m f

@@ -13,7 +13,7 @@ use Rattle.vf_scheduler.specs.Words.{words_of}
 abbrev pub StartIsSound : Type 0
 StartIsSound = (d : Elaborated) → IsWellFormed d → IsSound d (start d)
 
--- a move goes on to a sound state, or ends the run, which changes none
+-- a move goes on to a sound state, or ends the run and changes no state
 abbrev pub LeadsToSound : Elaborated → Move State → Type 0
 LeadsToSound d (go next text save) = IsSound d next
 LeadsToSound d (stop ending) = ⊤

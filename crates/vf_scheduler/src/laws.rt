@@ -8,7 +8,7 @@ pub fn start_is_sound()
 {}
 
 /// A turn keeps a state of a well-formed design sound, whatever it reads: it goes on to a sound state, or it ends the run and changes
-/// none.
+/// no state.
 pub fn step_is_sound()
     ensures { StepIsSound }
 {}
