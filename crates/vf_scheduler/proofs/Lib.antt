@@ -1,2 +1,20 @@
 mod Starts
 mod ReadLemmas
+mod Marks
+mod Queues
+mod Moves
+mod Held
+mod Processes
+mod Slots
+mod Codes
+mod Waking
+mod Assigned
+mod Driven
+mod Performed
+mod Regions
+mod Steps
+mod Values
+mod Entries
+mod Chains
+mod Telling
+pub mod CallerLemmas
