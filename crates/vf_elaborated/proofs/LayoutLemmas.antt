@@ -68,7 +68,7 @@ element_read words from signals sig place i signal s p h =
 
 -- ---- the room of the signals
 
-end_grows : (from : ℕ) (signals : List Signal) → from ≤ end_from from signals
+pub end_grows : (from : ℕ) (signals : List Signal) → from ≤ end_from from signals
 end_grows from [] = omega arith
 end_grows from (one ∷ rest) = let more = end_grows (from + signal_size one) rest in omega (arith, more)
 

@@ -23,9 +23,8 @@ use Rattle.vf_elaborated.specs.Laws.{ValuesHaveTheirShapes}
 use Rattle.vf_elaborated.proofs.NodeLemmas.{told_is_fold}
 use Rattle.vf_elaborated.proofs.OperatorShapes.{some_is, none_is, zip_length, digits_length, tested_shape, unary_shaped, binary_shaped}
 
--- ---- nodes that are made
+-- ---- what is told of a node that is made
 
--- what is told of a node that is made, by its parts
 pub told_roll : {A : Type 0} (step : Expr-F A → A) (x : Expr-F Expr) → told step (roll-Expr x) ≡ step (map-Expr Expr A (told step) x)
 told_roll {A} step x =
     told_is_fold 8 step (roll-Expr x) ∙ (fold-roll-Expr A step x ∙ sym (ap (λ f. step (map-Expr Expr A f x)) (fun_ext (told_is_fold 8 step))))

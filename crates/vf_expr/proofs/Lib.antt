@@ -1,0 +1,5 @@
+mod PlaceLemmas
+mod ReadLemmas
+mod SelectLemmas
+mod NodeLemmas
+mod Weights
