@@ -1,6 +1,7 @@
 -- What follows where a job is over: copies one after another, and images given back one after another.
-use Rattle.std.proofs.Common.{◌≡◌, ℕ, ◌+◌, ◌<◌, ◌≤◌, Bool, true, false, ◌==◌, not, List, [], ◌∷◌, ◌++◌, length, map, Some, is_some, refl, sym, ◌∙◌, ap, arith, slice_get, append_assoc, append-nil}
+use Rattle.std.proofs.Common.{◌≡◌, ℕ, ◌+◌, ◌<◌, ◌≤◌, zero, suc, nat_lt, Bool, true, false, ◌==◌, not, if◌then◌else◌, List, [], ◌∷◌, ◌++◌, length, map, Some, is_some, refl, sym, ◌∙◌, ap, subst, arith, slice_get, append_assoc, append-nil}
 use Rattle.std.specs.List.{filter, find}
+use Rattle.std.proofs.lemmas.Bool.{ltb-true, ltb-false}
 use Rattle.std.proofs.lemmas.List.{length-map}
 use Rattle.std.proofs.lemmas.List.Elements.{All-map}
 use Rattle.vf_base.specs.declared.names.Job.{Job}
@@ -18,7 +19,7 @@ use Rattle.vf_records.specs.declared.tables.Tables.{Tables}
 use Rattle.vf_records.specs.Account.{farm_of}
 use Rattle.vf_records.specs.Tables.{held_of, records_of, AreTables}
 use Rattle.vf_records.proofs.CopyLemmas.{copied_below, copies_below, copied_none, copied_all, copied_step, copied_skip, still_copied, entries_all, entries_step, entries_skip}
-use Rattle.vf_records.proofs.RetireLemmas.{kept_below, kept_step, kept_none, kept_all, retirings_below, retirings_step, without_one, map_filter}
+use Rattle.vf_records.proofs.RetireLemmas.{kept_below, same_retired, kept_step, kept_none, kept_all, retirings_below, retirings_step, without_one, map_filter}
 
 -- ---- copies
 
@@ -101,29 +102,30 @@ module _ (s : Conditions) (counts : Held → Header) (first : Tables) (kept : Ar
     within = omega arith;
   }
 
-  retired_at : (t : Tables) (at : ℕ) (b : Bool) → AreRetired s counts first t (at + 1) → is_retired (farm_of s) (records_of t) (node_no at) ≡ b
-      → is_retired (farm_of s) (kept_below s (records_of first) (at + 1)) (node_no at) ≡ b
-  retired_at t at b h e = ap (λ (r : Records). is_retired (farm_of s) r (node_no at)) (sym h.records) ∙ e
-
-  pub retired_next : (t new : Tables) (at : ℕ) → AreRetired s counts first t (at + 1) → is_retired (farm_of s) (records_of t) (node_no at) ≡ true
-      → records_of new ≡ record (records_of t) { held = without_image (node_no at) (records_of t).held } → new.journal.items ≡ t.journal.items ++ Retire (node_no at) ∷ []
+  pub retired_one : (t new : Tables) (at : ℕ) → AreRetired s counts first t (at + 1)
+      → records_of new ≡ (if is_retired (farm_of s) (records_of t) (node_no at) then record (records_of t) { held = without_image (node_no at) (records_of t).held } else records_of t)
+      → new.journal.items ≡ t.journal.items ++ (if is_retired (farm_of s) (records_of t) (node_no at) then Retire (node_no at) ∷ [] else [])
       → AreTables s.plan counts new → AreRetired s counts first new at
-  retired_next t new at h e records journal tables =
+  retired_one t new at h records journal tables =
       let r = records_of first in
-      let retired = retired_at t at true h e in
+      let below = kept_below s r (at + 1) in
       let within = h.within in
       record {
-        records = records ∙ ap (λ (x : Records). record x { held = without_image (node_no at) x.held }) h.records ∙ kept_step s r at true retired;
-        journal = ap (λ js. js ++ retirings_below s r at) journal ∙ append_assoc t.journal.items (Retire (node_no at) ∷ []) (retirings_below s r at)
-            ∙ ap (λ js. t.journal.items ++ js) (sym (retirings_step s r at true retired)) ∙ h.journal;
+        records = records ∙ ap (λ (x : Records). if is_retired (farm_of s) x (node_no at) then record x { held = without_image (node_no at) x.held } else x) h.records
+            ∙ kept_step s r at (is_retired (farm_of s) below (node_no at)) refl;
+        journal = ap (λ js. js ++ retirings_below s r at) journal
+            ∙ append_assoc t.journal.items (if is_retired (farm_of s) (records_of t) (node_no at) then Retire (node_no at) ∷ [] else []) (retirings_below s r at)
+            ∙ ap (λ js. t.journal.items ++ js) (ap (λ (x : Records). (if is_retired (farm_of s) x (node_no at) then Retire (node_no at) ∷ [] else []) ++ retirings_below s r at) h.records
+            ∙ sym (retirings_step s r at (is_retired (farm_of s) below (node_no at)) refl))
+            ∙ h.journal;
         tables = tables;
         within = omega (arith, within);
       }
 
-  pub retired_past : (t : Tables) (at : ℕ) → AreRetired s counts first t (at + 1) → is_retired (farm_of s) (records_of t) (node_no at) ≡ false → AreRetired s counts first t at
+  retired_past : (t : Tables) (at : ℕ) → AreRetired s counts first t (at + 1) → is_retired (farm_of s) (records_of first) (node_no at) ≡ false → AreRetired s counts first t at
   retired_past t at h e =
       let r = records_of first in
-      let retired = retired_at t at false h e in
+      let retired = same_retired s r at ∙ e in
       let within = h.within in
       record {
         records = h.records ∙ kept_step s r at false retired;
@@ -131,6 +133,24 @@ module _ (s : Conditions) (counts : Held → Header) (first : Tables) (kept : Ar
         tables = h.tables;
         within = omega (arith, within);
       }
+
+  -- past nodes without an image that no job needs
+  pub retired_to : (t : Tables) (to at : ℕ) → to ≤ at → AreRetired s counts first t at
+      → ((n : ℕ) → to ≤ n → n < at → is_retired (farm_of s) (records_of first) (node_no n) ≡ false) → AreRetired s counts first t to
+  retired_to t to zero h a none = subst (AreRetired s counts first t) (let same : zero ≡ to = omega (arith, h) in same) a
+  retired_to t to (suc at) h a none = by (nat_lt at to) refl (retired_to t to at)
+    where
+      by : (b : Bool) → nat_lt at to ≡ b
+          → (to ≤ at → AreRetired s counts first t at → ((n : ℕ) → to ≤ n → n < at → is_retired (farm_of s) (records_of first) (node_no n) ≡ false) → AreRetired s counts first t to)
+          → AreRetired s counts first t to
+      by true e further =
+          let same : suc at ≡ to = (let less = ltb-true at to e in omega (arith, h, less)) in
+          subst (AreRetired s counts first t) same a
+      by false e further =
+          let least = ltb-false at to e in
+          let one : suc at ≡ at + 1 = omega arith in
+          further (omega (arith, least)) (retired_past t at (subst (AreRetired s counts first t) one a) (none at (omega (arith, least)) (omega arith)))
+          (λ n low less. none n low (omega (arith, less)))
 
   pub retired_records : (t : Tables) → AreRetired s counts first t 0 → records_of t ≡ without_unneeded (farm_of s) (records_of first)
   retired_records t h = h.records ∙ kept_none s (records_of first)

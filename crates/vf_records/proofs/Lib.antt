@@ -9,5 +9,6 @@ pub mod JournalLemmas
 pub mod EventLemmas
 pub mod RecordLemmas
 pub mod FollowLemmas
+pub mod ServeLemmas
 pub mod EvictLemmas
 pub mod CallerLemmas
