@@ -10,5 +10,6 @@ pub mod EventLemmas
 pub mod RecordLemmas
 pub mod FollowLemmas
 pub mod ServeLemmas
+pub mod PinLemmas
 pub mod EvictLemmas
 pub mod CallerLemmas

@@ -1,19 +1,22 @@
 //! How the tables change where a job starts and where it is over.
 
-ghost use Rattle.std.specs.Prelude.{◌≡◌, ◌==◌, if◌then◌else◌, is_some, IfSome, vec_capacity, ℕ, ◌+◌, ◌<◌, ◌≤◌, ◌&&◌, not, true, false, List, [], ◌∷◌, ◌++◌, Option, Some, None, length, get_or, slice_get, slice_set, map, option_map};
+ghost use Rattle.std.specs.Prelude.{◌≡◌, ◌==◌, if◌then◌else◌, is_some, IfSome, vec_capacity, ℕ, ◌+◌, ◌<◌, ◌≤◌, ◌&&◌, not, true, false, List, [], ◌∷◌, ◌++◌, Option, Some, None, length, get_or, slice_get, slice_set, map, option_map, option_and_then};
 ghost use Rattle.std.specs.List.{list_any, find, filter};
 ghost use Rattle.vf_base.specs.declared.names.Job.{Job};
 ghost use Rattle.vf_plan.specs.declared.plan.Node.{Node};
 ghost use Rattle.vf_jobs.specs.Subtree as subtree;
 ghost use Rattle.vf_jobs.specs.Jobs.{node_of, node_no};
 ghost use Rattle.vf_journal.specs.Records as seen;
-ghost use Rattle.vf_journal.specs.Records.{Records, image_of, is_job, is_ready, is_over, running};
+ghost use Rattle.vf_journal.specs.Records.{Records, image_of, is_base, is_job, is_ready, is_over, running};
 ghost use Rattle.vf_journal.specs.Effects.{with_stage, with_over, with_copies, copies, retirings, without_unneeded, is_copied, is_needed, is_retired, without_image, origin_of, started_from};
 ghost use Rattle.vf_records.specs.Account.{farm_of, solo_of, AllServe, node_before};
+ghost use Rattle.vf_records.specs.Counts.{one};
 ghost use Rattle.vf_records.specs.Spreads.{spread_seen};
 ghost use Rattle.vf_records.specs.Tables.{entries_ahead, kinds_with, held_of, records_of, AreOver, AreTables, is_over_progress};
 
 use crate::counts::{count_up, nodes};
+use crate::pins::{base_of, pin, unpin};
+use crate::ready::image_at;
 use crate::row::{HeldImage, Progress};
 use crate::spread::Spread;
 use crate::tables::Tables;
@@ -189,11 +192,17 @@ impl Tables {
     /// Gives back the image of a node.
     fn release(&mut self, node: NodeNo)
         requires { node.0 < length self.old.images.items }
-        ensures rest { self.new ≡ record self.old { held = self.new.held; images = self.new.images } }
+        ensures rest { self.new ≡ record self.old { held = self.new.held; images = self.new.images; pins = self.new.pins } }
+        ensures pins { (n : ℕ) → n < length self.old.pins.items
+            → one (is_base (node_no n) (option_and_then (λ h. h.base) (get_or self.old.images.items node.0 None))) ≤ get_or self.old.pins.items n 0
+            → get_or self.new.pins.items n 0 + one (is_base (node_no n) (option_and_then (λ h. h.base) (get_or self.old.images.items node.0 None))) ≡ get_or self.old.pins.items n 0 }
+        ensures pins_length { length self.new.pins.items ≡ length self.old.pins.items }
         ensures images { self.new.images.items ≡ slice_set self.old.images.items node.0 None }
         ensures held { self.new.held.items ≡ filter (λ h. not (h.node.0 == node.0)) self.old.held.items }
         ensures capacity { vec_capacity self.new.held ≡ vec_capacity self.old.held }
     {
+        let base = base_of(image_at(&self.images, node.0 as usize));
+        unpin(&mut self.pins, base);
         self.held.retain(|image| image.node.0 != node.0);
         show(&mut self.images, node, None);
     }
@@ -328,6 +337,7 @@ impl Tables {
         self.close(setup, entry, Job::Reach(image.node), None, kind);
         self.held.push_reserved(image);
         show(&mut self.images, image.node, Some(image));
+        pin(&mut self.pins, image.base);
         self.retire(setup, image.node, image.node);
     }
 }

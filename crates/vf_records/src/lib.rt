@@ -12,6 +12,7 @@ mod evict;
 mod layout;
 mod next;
 mod outcome;
+mod pins;
 mod ready;
 mod records;
 mod row;

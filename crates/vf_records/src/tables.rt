@@ -27,6 +27,8 @@ pub(crate) struct Tables {
     pub(crate) held: Vec<HeldImage>,
     /// The image of each node, where it is held.
     pub(crate) images: Vec<Option<HeldImage>>,
+    /// How many held images stand on the image of each node.
+    pub(crate) pins: Vec<usize>,
     /// How many jobs there are in each node's subtree.
     pub(crate) all: Vec<usize>,
     /// How many of these are over.
@@ -68,6 +70,7 @@ impl Tables {
         let kinds = filled(alloc, Kind::Unknown, setup.plan.nodes.len())?;
         let held = Vec::with_capacity(alloc, most)?;
         let images = filled(alloc, None, setup.plan.nodes.len())?;
+        let pins = filled(alloc, 0, setup.plan.nodes.len())?;
         let all = counted(alloc, nodes(setup), &layout.jobs)?;
         let done = filled(alloc, 0, setup.plan.nodes.len())?;
         let journal = Vec::with_capacity(alloc, most)?;
@@ -79,6 +82,7 @@ impl Tables {
             first: 0,
             held,
             images,
+            pins,
             all,
             done,
             journal,

@@ -7,14 +7,16 @@ use Rattle.vf_jobs.specs.Jobs.{node_no}
 use Rattle.vf_journal.specs.declared.entry.Entry.{Entry}
 use Rattle.vf_journal.specs.declared.entry.Entry.TheVariants.{Saved}
 use Rattle.vf_journal.specs.declared.entry.Kind.TheVariants as kinds
+use Rattle.vf_journal.specs.Holding.{AreDistinct}
 use Rattle.vf_journal.specs.Records.{Held, Records}
 use Rattle.vf_journal.specs.Effects.{with_over, retirings, without_unneeded, is_retired}
 use Rattle.vf_records.specs.declared.layout.Layout.{Layout}
 use Rattle.vf_records.specs.declared.row.HeldImage.{HeldImage}
 use Rattle.vf_records.specs.Account.{farm_of, solo_of}
-use Rattle.vf_records.specs.Tables.{held_of, to_come, records_of, AreImaged}
+use Rattle.vf_records.specs.Tables.{held_of, to_come, records_of, AreImaged, ArePinned}
 use Rattle.vf_records.proofs.EventLemmas.{placed_job}
 use Rattle.vf_records.proofs.ImageTable.{imaged_more, none_rows}
+use Rattle.vf_records.proofs.PinLemmas.{distinct_last, pinned_more}
 use Rattle.vf_records.proofs.ServeLemmas.{saved_way}
 use Rattle.vf_records.proofs.tables.Tables.keep.Goals as goal
 
@@ -55,6 +57,13 @@ retire-requires-clause-tables c =
           (imaged_more x.held.items x.images.items image kept.imaged (omega (arith, node, long, kept.images))
           (none_rows x.held.items image.node.0 (ap (λ (r : Records). find (λ (h : Held). h.node.0 == image.node.0) r.held) c.close.ensures.records ∙ c.requires.free))));
       images = ap length c.show.ensures ∙ length-set x.images.items image.node.0 (Some image) ∙ kept.images;
+      apart = subst (λ (hs : List HeldImage). AreDistinct (map held_of hs)) (sym c.push_reserved.ensures.items)
+          (subst AreDistinct (sym (map-append held_of x.held.items (image ∷ [])))
+          (distinct_last (map held_of x.held.items) (held_of image) kept.apart
+          (ap (λ (r : Records). find (λ (h : Held). h.node.0 == image.node.0) r.held) c.close.ensures.records ∙ c.requires.free)));
+      pinned = subst (λ (hs : List HeldImage). ArePinned hs c.pin.new.pins.items) (sym c.push_reserved.ensures.items)
+          (pinned_more x.held.items x.pins.items c.pin.new.pins.items image kept.pinned (omega (arith, wide, most, slack, same, x.held.ok.0)) c.pin.ensures.length c.pin.ensures.counted);
+      pins = c.pin.ensures.length ∙ kept.pins;
       numbered = kept.numbered;
       room = record {
         most = omega (arith, slack, most, longer, same);
