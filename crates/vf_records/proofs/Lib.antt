@@ -11,5 +11,6 @@ pub mod RecordLemmas
 pub mod FollowLemmas
 pub mod ServeLemmas
 pub mod PinLemmas
+pub mod EndLemmas
 pub mod EvictLemmas
 pub mod CallerLemmas

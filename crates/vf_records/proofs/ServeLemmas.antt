@@ -24,7 +24,7 @@ use Rattle.vf_journal.specs.Effects.{Guard, after, by_itself, with_its_copies, w
 use Rattle.vf_journal.specs.Journal.{Choice, IsJournal, begun, next}
 use Rattle.vf_journal.proofs.CallerLemmas.{find_filtered}
 use Rattle.vf_records.specs.Account.{farm_of, solo_of, AllServe, parent_of, node_before}
-use Rattle.vf_records.proofs.CopyLemmas.{and_false}
+use Rattle.vf_records.proofs.CopyLemmas.{and_false, is_under}
 use Rattle.vf_records.proofs.ReadyLemmas.{above, height, standing}
 use Rattle.vf_records.proofs.TableLemmas.{same_is}
 
@@ -111,7 +111,7 @@ module _ (nodes : List Node) (plan : IsPlan nodes) where
   below_here : (n at : ℕ) (node : Node) → slice_get nodes at ≡ Some node → is_below nodes n at ≡ ((at == n) || list_any (λ a. a == n) (above nodes node.parent))
   below_here n at node e = ap (list_any (λ a. a == n)) (path-at nodes at node e (descends nodes plan at node e))
 
-  below_up : (n at : ℕ) (node : Node) → slice_get nodes at ≡ Some node → is_below nodes n at ≡ true → (at ≡ n → ⊥) → list_any (λ a. a == n) (above nodes node.parent) ≡ true
+  pub below_up : (n at : ℕ) (node : Node) → slice_get nodes at ≡ Some node → is_below nodes n at ≡ true → (at ≡ n → ⊥) → list_any (λ a. a == n) (above nodes node.parent) ≡ true
   below_up n at node e is differs =
       ap (λ b. b || list_any (λ a. a == n) (above nodes node.parent)) (sym (ne_eqb at n differs)) ∙ sym (below_here n at node e) ∙ is
 
@@ -213,30 +213,21 @@ module _ (nodes : List Node) (plan : IsPlan nodes) where
 
 -- ---- where copies follow
 
--- a job that is over by a copy
-pub copied_way : (s : Conditions) (r : Records) (spread : effects.Spread) (n : ℕ) → is_retired (farm_of s) r (node_no n) ≡ false
-    → is_retired (farm_of s) (with_copies (farm_of s) (Some spread) r) (node_no n) ≡ true
-    → (job : Job) × (is_below s.plan n (node_of job) ≡ true) × (is_below s.plan spread.node.0 (node_of job) ≡ true)
-copied_way s r spread n served gone =
-    let l = lost s r (with_copies (farm_of s) (Some spread) r) n (λ h. h) served gone in
-    let is = turned (is_copied (farm_of s) r spread l.job) (r.stages l.job) (over (Some (told.Copied spread.node))) l.was l.now in
-    let more = (and_parts (is_job s.plan l.job) (is_below s.plan spread.node.0 (node_of l.job) && (not (is_over (r.stages l.job)) && spread.fits l.job)) is).1 in
-    (l.job, l.below, (and_parts (is_below s.plan spread.node.0 (node_of l.job)) (not (is_over (r.stages l.job)) && spread.fits l.job) more).0)
-
--- so what is retired then is in the node's subtree or on its way
+-- what is retired where jobs are over by copies stands in the node's subtree, not after the last of them, or on the node's way
 pub copied_from : (s : Conditions) → IsPlan s.plan → (r : Records) (spread : effects.Spread) (node last : ℕ) → spread.node.0 ≡ node
-    → ((n : ℕ) → is_below s.plan node n ≡ true → n ≤ last) → ((n : ℕ) → is_retired (farm_of s) r (node_no n) ≡ true → is_below s.plan n node ≡ true)
+    → ((job : Job) → is_copied (farm_of s) r spread job ≡ true → node_of job ≤ last) → ((n : ℕ) → is_retired (farm_of s) r (node_no n) ≡ true → is_below s.plan n node ≡ true)
     → (n : ℕ) → is_retired (farm_of s) (with_copies (farm_of s) (Some spread) r) (node_no n) ≡ true → (node ≤ n → n ≤ last → ⊥) → is_below s.plan n node ≡ true
 copied_from s plan r spread node last same most way n gone other = by (is_retired (farm_of s) r (node_no n)) refl
   where
     by : (b : Bool) → is_retired (farm_of s) r (node_no n) ≡ b → is_below s.plan n node ≡ true
     by true e = way n e
     by false e =
-        let found = copied_way s r spread n e gone in
-        let under : is_below s.plan node (node_of found.0) ≡ true = ap (λ k. is_below s.plan k (node_of found.0)) (sym same) ∙ found.2 in
-        let first = stands_before s.plan n (node_of found.0) plan found.1 in
-        let end = most (node_of found.0) under in
-        first_of (nat_lt n node) refl found.0 under found.1 (omega (arith, first, end))
+        let l = lost s r (with_copies (farm_of s) (Some spread) r) n (λ h. h) e gone in
+        let is = turned (is_copied (farm_of s) r spread l.job) (r.stages l.job) (over (Some (told.Copied spread.node))) l.was l.now in
+        let under : is_below s.plan node (node_of l.job) ≡ true = ap (λ k. is_below s.plan k (node_of l.job)) (sym same) ∙ is_under s spread r l.job is in
+        let first = stands_before s.plan n (node_of l.job) plan l.below in
+        let end = most l.job is in
+        first_of (nat_lt n node) refl l.job under l.below (omega (arith, first, end))
       where
         first_of : (b : Bool) → nat_lt n node ≡ b → (job : Job) → is_below s.plan node (node_of job) ≡ true → is_below s.plan n (node_of job) ≡ true → n ≤ last → is_below s.plan n node ≡ true
         first_of true less job under is inside = on_way s.plan plan (node_of job + 1) n node (node_of job) (omega arith) is under (ltb-true n node less)

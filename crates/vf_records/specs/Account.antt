@@ -97,3 +97,6 @@ parent_of (Some node) = node.parent
 -- the node before another: by its number, down to a node; and from there its parent
 abbrev pub node_before : List Node → ℕ → ℕ → Option NodeNo
 node_before nodes node at = if nat_lt node at then Some (node_no (at - 1)) else parent_of (slice_get nodes at)
+
+abbrev pub later : NodeNo → NodeNo → NodeNo
+later a b = if nat_lt a.0 b.0 then b else a

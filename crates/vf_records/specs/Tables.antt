@@ -19,7 +19,7 @@ use Rattle.vf_records.specs.declared.row.Progress.{Progress}
 use Rattle.vf_records.specs.declared.row.Progress.TheVariants as rows
 use Rattle.vf_records.specs.declared.tables.Tables.{Tables}
 use Rattle.vf_records.specs.Layout.{place_in, IsLaidOut}
-use Rattle.vf_records.specs.Counts.{AreNumbered, one}
+use Rattle.vf_records.specs.Counts.{AreNumbered, AreEnded, one}
 pub use Rattle.vf_records.specs.Counts.{is_over_progress}
 
 -- ---- what the tables say
@@ -124,4 +124,6 @@ pub record AreTables (nodes : List Node) (counts : Held → Header) (t : Tables)
   pub pinned : ArePinned t.held.items t.pins.items
   pub pins : length t.pins.items ≡ length nodes
   pub numbered : AreNumbered nodes t.layout.jobs.items t.progress.items t.all.items t.done.items
+  pub ended : AreEnded nodes t.layout.jobs.items t.ends.items
+  pub ends : length t.ends.items ≡ length nodes
   pub room : HasRoom t

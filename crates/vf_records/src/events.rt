@@ -9,7 +9,7 @@ ghost use Rattle.vf_jobs.specs.Jobs.{node_of, node_no};
 ghost use Rattle.vf_journal.specs.Records as seen;
 ghost use Rattle.vf_journal.specs.Records.{Records, image_of, is_base, is_job, is_ready, is_over, running};
 ghost use Rattle.vf_journal.specs.Effects.{with_stage, with_over, with_copies, copies, retirings, without_unneeded, is_copied, is_needed, is_retired, without_image, origin_of, started_from};
-ghost use Rattle.vf_records.specs.Account.{farm_of, solo_of, AllServe, node_before};
+ghost use Rattle.vf_records.specs.Account.{farm_of, solo_of, AllServe, later, node_before};
 ghost use Rattle.vf_records.specs.Counts.{one};
 ghost use Rattle.vf_records.specs.Spreads.{spread_seen};
 ghost use Rattle.vf_records.specs.Tables.{entries_ahead, kinds_with, held_of, records_of, AreOver, AreTables, is_over_progress};
@@ -85,15 +85,19 @@ fn node_before(plan: &Plan, node: NodeNo, at: NodeNo) -> Option<NodeNo>
     }
 }
 
-/// The last node that the subtree of a node may have.
-fn last_below(plan: &Plan, node: NodeNo) -> NodeNo
-    requires { node.0 < length plan.now }
-    ensures within { result.0 < length plan.now }
-    ensures node { node.0 ≤ result.0 }
-    ensures last { (n : ℕ) → subtree.is_below plan.now node.0 n ≡ true → n ≤ result.0 }
+fn lesser(a: usize, b: usize) -> usize
+    ensures a { result ≤ a }
+    ensures b { result ≤ b }
+    ensures is { (k : ℕ) → k < a → k < b → k < result }
 {
-    let _from = node;
-    NodeNo(plan.nodes.len() as u32 - 1)
+    if a < b { a } else { b }
+}
+
+/// The one of two nodes that comes later.
+fn later(a: NodeNo, b: NodeNo) -> NodeNo
+    ensures { result ≡ later a b }
+{
+    if a.0 < b.0 { b } else { a }
 }
 
 impl Tables {
@@ -159,22 +163,30 @@ impl Tables {
         spread.reached.fits(limits_of(setup, job))
     }
 
-    /// Each job of the node's subtree that the end of its run fits is over with it.
-    fn copy(&mut self, setup: &Setup, spread: Spread)
+    /// Each job of the node's subtree that the end of its run fits is over with it. Tells a node at or
+    /// after all of theirs.
+    fn copy(&mut self, setup: &Setup, spread: Spread) -> NodeNo
         requires tables { AreTables setup.now.plan (solo_of setup.now).counts self.old }
         requires node { spread.node.0 < length setup.now.plan }
         ensures records { records_of self.new ≡ with_copies (farm_of setup.now) (Some (spread_seen setup.now spread)) (records_of self.old) }
         ensures journal { self.new.journal.items ≡ self.old.journal.items ++ copies (farm_of setup.now) (Some (spread_seen setup.now spread)) (records_of self.old) }
         ensures tables { AreTables setup.now.plan (solo_of setup.now).counts self.new }
+        ensures within { result.0 < length setup.now.plan }
+        ensures node { spread.node.0 ≤ result.0 }
+        ensures last { (job : Job) → is_copied (farm_of setup.now) (records_of self.old) (spread_seen setup.now spread) job ≡ true → node_of job ≤ result.0 }
     {
-        for at in 0..self.layout.jobs.len() {
+        let mut last = spread.node;
+        let end = lesser(self.ends[spread.node.0 as usize], self.layout.jobs.len());
+        for at in self.first..end {
             if self.is_copied(setup, spread, at) {
                 let job = self.layout.jobs[at];
                 let entry = Entry::Copy(job, spread.node);
                 let tells = Some(Told::Copied(spread.node));
                 self.close(setup, entry, job, tells, spread.kind);
+                last = later(last, node_of(job));
             }
         }
+        last
     }
 
     /// Whether some job of a node's subtree is not over.
@@ -279,10 +291,10 @@ impl Tables {
             ++ retirings (farm_of setup.now) (with_copies (farm_of setup.now) (option_map (spread_seen setup.now) spread) (records_of self.old))) }
         ensures tables { AreTables setup.now.plan (solo_of setup.now).counts self.new }
     {
+        let _nodes = nodes(setup);
         match spread {
             Some(spread) => {
-                self.copy(setup, spread);
-                let last = last_below(&setup.plan, node);
+                let last = self.copy(setup, spread);
                 self.retire(setup, last, node);
             }
             None => self.retire(setup, node, node),

@@ -7,6 +7,7 @@
 #![tactic(auto)]
 
 mod counts;
+mod ends;
 mod events;
 mod evict;
 mod layout;

@@ -7,6 +7,7 @@ ghost use Rattle.vf_jobs.specs.Jobs as jobs;
 ghost use Rattle.vf_jobs.specs.Subtree.{is_below};
 
 use crate::counts::{counted, nodes};
+use crate::ends::ends_of;
 use crate::layout::{Layout, filled};
 use crate::row::{HeldImage, Progress};
 use std::alloc::Global;
@@ -33,6 +34,8 @@ pub(crate) struct Tables {
     pub(crate) all: Vec<usize>,
     /// How many of these are over.
     pub(crate) done: Vec<usize>,
+    /// The jobs of each node's subtree stand before this place.
+    pub(crate) ends: Vec<usize>,
     pub(crate) journal: Vec<Entry>,
 }
 
@@ -73,6 +76,7 @@ impl Tables {
         let pins = filled(alloc, 0, setup.plan.nodes.len())?;
         let all = counted(alloc, nodes(setup), &layout.jobs)?;
         let done = filled(alloc, 0, setup.plan.nodes.len())?;
+        let ends = ends_of(alloc, nodes(setup), &layout.jobs)?;
         let journal = Vec::with_capacity(alloc, most)?;
         Ok(Tables {
             layout,
@@ -85,6 +89,7 @@ impl Tables {
             pins,
             all,
             done,
+            ends,
             journal,
         })
     }

@@ -116,5 +116,7 @@ returns-clause-tables c =
             ∙ sym (over_same s.plan n t.layout.jobs.items t.progress.items k (rows.Running attempt) refl
             (ap (λ m. is_over_progress (get_or t.progress.items m rows.Idle)) same ∙ idle_not_over (get_or t.progress.items p rows.Idle) idle));
       };
+      ended = kept.ended;
+      ends = kept.ends;
       room = record { most = omega (arith, longer, less, most); journal = omega (arith, room, c.push_reserved.ensures.capacity); held = kept.room.held };
     }

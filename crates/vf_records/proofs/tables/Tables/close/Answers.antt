@@ -123,6 +123,8 @@ returns-clause-tables c =
             ∙ sym (over_more s.plan n t.layout.jobs.items t.progress.items k c.args.job (ap (slice_get t.layout.jobs.items) same ∙ placed.at) progress
             (ap (λ m. is_over_progress (get_or t.progress.items m rows.Idle)) same ∙ not_over_at s (solo_of s).counts t kept c.args.job c.requires.job c.requires.left));
       };
+      ended = kept.ended;
+      ends = kept.ends;
       room = record { most = omega (arith, longer, less, most); journal = omega (arith, room, c.push_reserved.ensures.capacity); held = kept.room.held };
     }
 

@@ -16,10 +16,8 @@ use Rattle.vf_records.proofs.tables.Tables.follow.Goals as goal
 pub retire-requires-clause-way : goal.retire-requires-clause-way
 retire-requires-clause-way c = λ n gone other.
     let s = c.args.setup.now in
-    let plan : IsPlan s.plan = subst (λ (s : Conditions). IsPlan s.plan) c.setup.view_is c.setup.invariant.setup.plan in
+    let plan : IsPlan s.plan = c.nodes-nodes.ensures.kept.plan in
     let spread = spread_seen s c.in-Some.spread in
     let spread_is : spread.node.0 ≡ c.args.node.0 = subst (λ o. IfSome o (λ (x : Spread). x.node.0 ≡ c.args.node.0)) c.in-Some.is c.requires.spread in
-    let below : (n : ℕ) → is_below s.plan c.args.node.0 n ≡ true → n ≤ c.last_below-last.result.0 =
-    λ n is. c.last_below-last.ensures.last n (ap (λ (s : Conditions). is_below s.plan c.args.node.0 n) c.setup.view_is ∙ is) in
-    copied_from s plan (records_of c.args.self.now) spread c.args.node.0 c.last_below-last.result.0 spread_is below c.requires.way
-    n (ap (λ (r : Records). is_retired (farm_of s) r (node_no n)) (sym c.copy.ensures.records) ∙ gone) other
+    copied_from s plan (records_of c.args.self.now) spread c.args.node.0 c.copy-last.result.0 spread_is c.copy-last.ensures.last c.requires.way
+    n (ap (λ (r : Records). is_retired (farm_of s) r (node_no n)) (sym c.copy-last.ensures.records) ∙ gone) other

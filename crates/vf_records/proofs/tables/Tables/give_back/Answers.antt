@@ -68,6 +68,8 @@ returns-clause-tables c =
           (found_row t.held.items t.images.items c.args.node kept.imaged c.requires.image) c.release.ensures.pins_length c.release.ensures.pins);
       pins = c.release.ensures.pins_length ∙ kept.pins;
       numbered = kept.numbered;
+      ended = kept.ended;
+      ends = kept.ends;
       room = record {
         most = omega (arith, less, left, old, longer, most);
         journal = omega (arith, room, wide, c.push_reserved.ensures.capacity);

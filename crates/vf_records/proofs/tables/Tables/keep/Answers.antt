@@ -65,6 +65,8 @@ retire-requires-clause-tables c =
           (pinned_more x.held.items x.pins.items c.pin.new.pins.items image kept.pinned (omega (arith, wide, most, slack, same, x.held.ok.0)) c.pin.ensures.length c.pin.ensures.counted);
       pins = c.pin.ensures.length ∙ kept.pins;
       numbered = kept.numbered;
+      ended = kept.ended;
+      ends = kept.ends;
       room = record {
         most = omega (arith, slack, most, longer, same);
         journal = kept.room.journal;
