@@ -1,5 +1,5 @@
 -- Each image that is held serves a job that is left; so what is retired where jobs are over stood above one of them.
-use Rattle.std.proofs.Common.{◌≡◌, ℕ, zero, suc, ◌+◌, ◌-◌, ◌<◌, ◌≤◌, Bool, true, false, ◌&&◌, ◌||◌, ◌==◌, nat_lt, not, cond, if◌then◌else◌, List, [], ◌∷◌, ◌++◌, length, Option, Some, None, is_some, IfSome, refl, sym, ◌∙◌, ap, ap₂, subst, arith, ⊎_elim, slice_get}
+use Rattle.std.proofs.Common.{◌≡◌, ℕ, zero, suc, ◌+◌, ◌-◌, ◌<◌, ◌≤◌, Bool, true, false, ◌&&◌, ◌||◌, ◌==◌, nat_lt, not, cond, if◌then◌else◌, List, [], ◌∷◌, ◌++◌, length, Option, Some, None, is_some, IfSome, refl, sym, ◌∙◌, ap, subst, arith, ⊎_elim, slice_get}
 use Rattle.std.specs.List.{list_any, find}
 use Rattle.std.proofs.lemmas.Bool.{false≢true, and_parts, or_parts, or_cases, ne_eqb, eqb-true, eqb-false, eq-eqb, ltb-true, ltb-false}
 use Rattle.vf_base.specs.declared.names.Job.{Job}
@@ -18,7 +18,7 @@ use Rattle.vf_journal.specs.declared.entry.Entry.TheVariants.{Start, Saved, Pass
 use Rattle.vf_journal.specs.declared.entry.Kind.{Kind}
 use Rattle.vf_journal.specs.declared.entry.Told.{Told}
 use Rattle.vf_journal.specs.declared.entry.Told.TheVariants as told
-use Rattle.vf_journal.specs.Records.{Held, Stage, idle, running, deferred, over, Records, same_job, is_job, is_over, image_of}
+use Rattle.vf_journal.specs.Records.{Held, Stage, idle, running, deferred, over, Records, same_job, is_over, image_of}
 use Rattle.vf_journal.specs.Effects as effects
 use Rattle.vf_journal.specs.Effects.{Guard, after, by_itself, with_its_copies, with_stage, with_over, with_copies, without_unneeded, ready_again, started_from, is_copied, is_needed, is_retired}
 use Rattle.vf_journal.specs.Journal.{Choice, IsJournal, begun, next}

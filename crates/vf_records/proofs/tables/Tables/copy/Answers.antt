@@ -1,10 +1,10 @@
-use Rattle.std.proofs.Common.{◌≡◌, ℕ, ◌<◌, ◌≤◌, ◌+◌, ◌∙◌, Some, length, slice_get, get_or, refl, sym, ap, subst, arith}
+use Rattle.std.proofs.Common.{◌≡◌, ℕ, ◌<◌, ◌+◌, ◌∙◌, Some, length, slice_get, get_or, refl, sym, ap, subst, arith}
 use Rattle.std.proofs.lemmas.List.{get_or_read}
 use Rattle.std.proofs.lemmas.Option.{slice_get_read, slice_get_within}
 use Rattle.vf_base.specs.declared.names.NodeNo.{NodeNo}
 use Rattle.vf_records.specs.declared.layout.Layout.{Layout}
 use Rattle.vf_records.specs.declared.tables.Tables.{Tables}
-use Rattle.vf_records.specs.Account.{solo_of, later}
+use Rattle.vf_records.specs.Account.{solo_of}
 use Rattle.vf_records.specs.Spreads.{spread_seen}
 use Rattle.vf_records.proofs.ReadyLemmas.{standing}
 use Rattle.vf_records.proofs.FollowLemmas.{IsCopying, copied_next, copying_first, copying_next, copying_past, copying_last, copied_records, copied_journal}

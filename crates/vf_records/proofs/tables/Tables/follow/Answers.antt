@@ -1,9 +1,6 @@
-use Rattle.std.proofs.Common.{◌≡◌, ℕ, ◌+◌, ◌<◌, ◌≤◌, ◌∙◌, Bool, true, false, List, Some, IfSome, length, refl, sym, ap, subst, arith}
+use Rattle.std.proofs.Common.{◌≡◌, ◌∙◌, IfSome, sym, ap, subst}
 use Rattle.vf_plan.specs.Rules.{IsPlan}
-use Rattle.vf_jobs.specs.Jobs.{node_of, node_no}
-use Rattle.vf_jobs.specs.Setup.{Conditions}
-use Rattle.vf_jobs.specs.Subtree.{is_below}
-use Rattle.vf_jobs.proofs.CallerLemmas.{stands_before}
+use Rattle.vf_jobs.specs.Jobs.{node_no}
 use Rattle.vf_journal.specs.Records.{Records}
 use Rattle.vf_journal.specs.Effects.{is_retired}
 use Rattle.vf_records.specs.Account.{farm_of}

@@ -1,4 +1,4 @@
-use Rattle.std.proofs.Common.{◌≡◌, ℕ, ◌<◌, ◌∙◌, nat_lt, sym, ap, arith}
+use Rattle.std.proofs.Common.{◌∙◌, nat_lt, sym, ap}
 use Rattle.std.proofs.lemmas.List.{get_or_read}
 use Rattle.vf_records.proofs.PinLemmas.{some_pinned}
 use Rattle.vf_records.proofs.tables.Tables.is_pinned.Goals as goal

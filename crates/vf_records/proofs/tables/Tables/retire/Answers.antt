@@ -1,7 +1,5 @@
-use Rattle.std.proofs.Common.{◌≡◌, ℕ, ◌+◌, ◌<◌, ◌≤◌, ◌∙◌, true, false, Bool, List, Option, IfSome, length, refl, sym, ap, subst, arith}
-use Rattle.std.proofs.lemmas.Bool.{false≢true}
+use Rattle.std.proofs.Common.{◌≡◌, ◌+◌, ◌<◌, ◌≤◌, ◌∙◌, true, false, Bool, Option, IfSome, length, refl, sym, ap, subst, arith}
 use Rattle.vf_base.specs.declared.names.NodeNo.{NodeNo}
-use Rattle.vf_plan.specs.declared.plan.Node.{Node}
 use Rattle.vf_plan.specs.Rules.{IsPlan}
 use Rattle.vf_jobs.specs.Jobs.{node_no}
 use Rattle.vf_jobs.specs.Setup.{Conditions}
@@ -11,7 +9,7 @@ use Rattle.vf_journal.specs.Effects.{is_retired}
 use Rattle.vf_records.specs.Account.{farm_of, solo_of, node_before}
 use Rattle.vf_records.specs.Tables.{records_of}
 use Rattle.vf_records.proofs.ReadyLemmas.{height}
-use Rattle.vf_records.proofs.FollowLemmas.{AreRetired, retired_first, retired_one, retired_to, retired_records, retired_journal}
+use Rattle.vf_records.proofs.FollowLemmas.{AreRetired, retired_first, retired_one, retired_to}
 use Rattle.vf_records.proofs.ServeLemmas.{below_self, none_between, next_up}
 use Rattle.vf_records.proofs.tables.Tables.retire.Goals as goal
 

@@ -1,5 +1,5 @@
-use Rattle.std.proofs.Common.{◌≡◌, ℕ, ◌<◌, ◌∙◌, true, IfSome, length, sym, ap, subst, arith}
-use Rattle.vf_jobs.specs.Jobs.{node_of, node_no}
+use Rattle.std.proofs.Common.{◌∙◌, sym, ap, arith}
+use Rattle.vf_jobs.specs.Jobs.{node_no}
 use Rattle.vf_jobs.specs.Subtree.{is_below}
 use Rattle.vf_journal.specs.Records.{Records}
 use Rattle.vf_journal.specs.Effects.{is_retired}
