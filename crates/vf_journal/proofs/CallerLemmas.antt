@@ -16,3 +16,5 @@ pub use Rattle.vf_journal.proofs.DecisionLemmas.{SavesAt, Stands, endings_stand,
 pub use Rattle.vf_journal.proofs.TightLemmas.{Reaches, tight-append, tight_nil, pages_later, pages_with, tight_next, no_turns, none_running}
 -- with one job at a time
 pub use Rattle.vf_journal.proofs.TightLemmas.{far_at, none_far, tight_later, tight_started, tight_evicted, pages_closed, tight_closed, tight_unstarted}
+-- the image of a node among those that are kept by their nodes, and no two images of one node in what is kept or grows
+pub use Rattle.vf_journal.proofs.ImageLists.{find_filtered, distinct_filtered, distinct_more}

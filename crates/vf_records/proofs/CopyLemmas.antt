@@ -51,8 +51,13 @@ less_same : (p at : ℕ) (b : Bool) → (p ≡ at → b ≡ false) → (nat_lt p
 less_same p at true h = ap (λ b. b && true) (not_equal p at (λ e. false≢true (sym (h e))))
 less_same p at false h = and_false (nat_lt p (at + 1)) ∙ sym (and_false (nat_lt p at))
 
+pub is_under : (s : Conditions) (spread : effects.Spread) (r : Records) (job : Job) → is_copied (farm_of s) r spread job ≡ true → is_below s.plan spread.node.0 (node_of job) ≡ true
+is_under s spread r job is =
+    (and_parts (is_below s.plan spread.node.0 (node_of job)) (not (is_over (r.stages job)) && spread.fits job)
+    (and_parts (is_job s.plan job) (is_below s.plan spread.node.0 (node_of job) && (not (is_over (r.stages job)) && spread.fits job)) is).1).0
+
 module _ (s : Conditions) (spread : effects.Spread) (listed : List Job) (places : List Place) (laid : IsLaidOut s.plan (length s.plan) listed places) (r : Records) where
-  there : (job : Job) → is_copied (farm_of s) r spread job ≡ true → slice_get listed (place_in places job) ≡ Some job
+  pub there : (job : Job) → is_copied (farm_of s) r spread job ≡ true → slice_get listed (place_in places job) ≡ Some job
   there job c = job_at s.plan listed places laid job (and_parts (is_job s.plan job) (is_below s.plan spread.node.0 (node_of job) && (not (is_over (r.stages job)) && spread.fits job)) c).0
 
   only : (at : ℕ) (job other : Job) → slice_get listed at ≡ Some job → place_in places other ≡ at → is_copied (farm_of s) r spread other ≡ true → other ≡ job

@@ -60,6 +60,9 @@ module _ (s : Conditions) (counts : Held → Header) (t : Tables) (kept : AreTab
   pub ready_job : (job : Job) → is_ready (farm_of s) (records_of t) job ≡ true → is_job s.plan job ≡ true
   ready_job job h = (and_parts (is_job s.plan job) (is_idle ((records_of t).stages job) && jobs.is_ready s.plan (λ n. is_known ((records_of t).kinds n)) job) h).0
 
+  pub placed_ready : (job : Job) → is_ready (farm_of s) (records_of t) job ≡ true → IsPlaced t job
+  placed_ready job h = placed_job job (ready_job job h)
+
   pub idle_at : (job : Job) → is_ready (farm_of s) (records_of t) job ≡ true
       → is_idle_progress (get_or t.progress.items (place_in t.layout.places.items job) rows.Idle) ≡ true
   idle_at job h =
@@ -96,6 +99,11 @@ spent progress k h e =
     let sums = sum_by-set to_come progress k rows.Over rows.Idle h in
     let two = open_to_come (get_or progress k rows.Idle) e in
     omega (arith, sums, two)
+
+-- the job of the plan that is over spends two of them
+pub spent_at : (s : Conditions) (counts : Held → Header) (t : Tables) → AreTables s.plan counts t → (job : Job) → is_job s.plan job ≡ true → is_over ((records_of t).stages job) ≡ false
+    → sum_by to_come (slice_set t.progress.items (place_in t.layout.places.items job) rows.Over) + 2 ≤ sum_by to_come t.progress.items
+spent_at s counts t kept job h left = spent t.progress.items (place_in t.layout.places.items job) (placed_job s counts t kept job h).progress (not_over_at s counts t kept job h left)
 
 pub used : (progress : List Progress) (k : ℕ) (attempt : Attempt) → k < length progress → is_idle_progress (get_or progress k rows.Idle) ≡ true
     → sum_by to_come (slice_set progress k (rows.Running attempt)) + 1 ≡ sum_by to_come progress

@@ -9,5 +9,8 @@ pub mod JournalLemmas
 pub mod EventLemmas
 pub mod RecordLemmas
 pub mod FollowLemmas
+pub mod ServeLemmas
+pub mod PinLemmas
+pub mod EndLemmas
 pub mod EvictLemmas
 pub mod CallerLemmas

@@ -28,7 +28,7 @@ use Rattle.vf_records.specs.declared.spread.Reached.{Reached}
 use Rattle.vf_records.specs.declared.spread.Reached.TheVariants.{Ending, Passing}
 use Rattle.vf_records.specs.declared.spread.Spread.{Spread}
 use Rattle.vf_records.specs.declared.tables.Tables.{Tables}
-use Rattle.vf_records.specs.Account.{Account, farm_of, solo_of, records_in, records_after, with_entry, IsAccount, IsLawful}
+use Rattle.vf_records.specs.Account.{Account, farm_of, solo_of, records_in, records_after, with_entry, IsAccount, IsLawful, AllServe}
 use Rattle.vf_records.specs.Inner.{account_of, IsKept}
 use Rattle.vf_records.specs.Spreads.{spread_seen, spread_from}
 use Rattle.vf_records.specs.Layout.{place_in}
@@ -36,6 +36,7 @@ use Rattle.vf_records.specs.Tables.{stage_of, stands_at, records_of, AreTables}
 use Rattle.vf_records.proofs.TableLemmas.{running_job}
 use Rattle.vf_records.proofs.EventLemmas.{placed_job, ready_job, ready_open}
 use Rattle.vf_records.proofs.JournalLemmas.{come_to, journal_next}
+use Rattle.vf_records.proofs.ServeLemmas.{all_serve}
 
 pub setup_is : (inside : Inside) (a : Account) → account_of inside ≡ a → (d : Conditions) → d ≡ arc_value inside.setup → d ≡ a.setup
 setup_is inside a view d is = is ∙ ap (λ (a : Account). a.setup) view
@@ -45,6 +46,10 @@ records_is inside a view kept = sym (come_to (account_of inside) (records_of ins
 
 pub tables_at : (inside : Inside) → IsKept inside → (d : Conditions) → d ≡ arc_value inside.setup → AreTables d.plan (solo_of d).counts inside.tables
 tables_at inside kept d is = subst (λ (s : Conditions). AreTables s.plan (solo_of s).counts inside.tables) (sym is) kept.tables
+
+-- each image serves a job that is left
+pub serve_at : (inside : Inside) → IsKept inside → (d : Conditions) → d ≡ arc_value inside.setup → AllServe d (records_of inside.tables)
+serve_at inside kept d is = subst (λ (s : Conditions). AllServe s (records_of inside.tables)) (sym is) (all_serve (arc_value inside.setup) ordered inside.tables.journal.items (records_of inside.tables) kept.lawful)
 
 -- ---- what an account keeps
 
@@ -171,7 +176,6 @@ pub spread_pass : (s : Conditions) (job : Job) (of_run : Limits) (turn pages : �
 spread_pass s (Reach n) of_run turn pages e = ap (λ (l : Limits). option_map (spread_seen s) (spread_from (Reach n) kinds.Over (Passing turn l))) e
 spread_pass s (Finish n) of_run turn pages e = refl
 
-pub spread_node : (job : Job) (most : ℕ) (spread : Option Spread) (kind : Kind) (reached : Reached) → spread ≡ spread_from job kind reached → node_of job < most
-    → IfSome spread (λ s. s.node.0 < most)
-spread_node (Reach n) most spread kind reached e h = subst (λ o. IfSome o (λ (s : Spread). s.node.0 < most)) (sym e) h
-spread_node (Finish n) most spread kind reached e h = subst (λ o. IfSome o (λ (s : Spread). s.node.0 < most)) (sym e) tt
+pub spread_node : (job : Job) (spread : Option Spread) (kind : Kind) (reached : Reached) → spread ≡ spread_from job kind reached → IfSome spread (λ s. s.node.0 ≡ node_of job)
+spread_node (Reach n) spread kind reached e = subst (λ o. IfSome o (λ (s : Spread). s.node.0 ≡ n.0)) (sym e) refl
+spread_node (Finish n) spread kind reached e = subst (λ o. IfSome o (λ (s : Spread). s.node.0 ≡ n.0)) (sym e) tt

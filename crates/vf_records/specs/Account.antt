@@ -1,13 +1,16 @@
 -- What contracts see of `Records`, and how an entry changes it (docs/FARM.md, "The journal").
-use Rattle.std.specs.Prelude.{◌≡◌, Bool, true, false, not, List, ◌∷◌, ◌++◌, Option, Some, None, option_and_then}
+use Rattle.std.specs.Prelude.{◌≡◌, ℕ, ◌-◌, nat_lt, Bool, true, false, not, if◌then◌else◌, List, ◌∷◌, ◌++◌, Option, Some, None, option_and_then, slice_get}
 use Rattle.vf_base.specs.declared.names.Job.{Job}
+use Rattle.vf_base.specs.declared.names.NodeNo.{NodeNo}
 use Rattle.vf_design.specs.State.{State}
 use Rattle.vf_design.specs.Words.{machine_of}
+use Rattle.vf_plan.specs.declared.plan.Node.{Node}
+use Rattle.vf_jobs.specs.Jobs.{node_no}
 use Rattle.vf_jobs.specs.Setup.{Conditions, IsSetup}
 use Rattle.vf_journal.specs.declared.entry.Entry.{Entry}
 use Rattle.vf_journal.specs.Farm.{Farm}
 use Rattle.vf_journal.specs.Records.{Held, Attempt, Stage, idle, running, deferred, over, Records, at_first, is_deferred, is_over, some_job, image_of}
-use Rattle.vf_journal.specs.Effects.{Seen, Guard, after, consequences}
+use Rattle.vf_journal.specs.Effects.{Seen, Guard, after, consequences, is_retired}
 use Rattle.vf_journal.specs.Journal.{of_solo, ordered, replay, IsChosen, IsJournal, IsOfSolo, first_ready}
 use Rattle.vf_journal.specs.Holding.{AreHeld}
 use Rattle.vf_journal.specs.Laws.{IsTold}
@@ -80,3 +83,20 @@ is_left s r = some_job (farm_of s) (λ job. not (is_over (r.stages job)))
 -- the first ready job; where there is none, whether some job is not over
 abbrev pub next_job_of : Account → Next
 next_job_of a = next_of (first_ready (farm_of a.setup) (records_in a)) (is_left a.setup (records_in a))
+
+-- ---- which images are held
+
+-- each image that is held serves a job that is left
+abbrev pub AllServe : Conditions → Records → Type 0
+AllServe s r = (n : ℕ) → is_retired (farm_of s) r (node_no n) ≡ false
+
+abbrev pub parent_of : Option Node → Option NodeNo
+parent_of None = None
+parent_of (Some node) = node.parent
+
+-- the node before another: by its number, down to a node; and from there its parent
+abbrev pub node_before : List Node → ℕ → ℕ → Option NodeNo
+node_before nodes node at = if nat_lt node at then Some (node_no (at - 1)) else parent_of (slice_get nodes at)
+
+abbrev pub later : NodeNo → NodeNo → NodeNo
+later a b = if nat_lt a.0 b.0 then b else a

@@ -1,5 +1,5 @@
 -- How many jobs there are in the subtree of a node, and how many of them are over.
-use Rattle.std.specs.Prelude.{◌≡◌, ℕ, ◌+◌, Bool, true, false, ◌&&◌, if◌then◌else◌, List, [], ◌∷◌, length, get_or}
+use Rattle.std.specs.Prelude.{◌≡◌, ℕ, ◌+◌, ◌<◌, Bool, true, false, ◌&&◌, if◌then◌else◌, List, [], ◌∷◌, Some, length, get_or, slice_get}
 use Rattle.vf_base.specs.declared.names.Job.{Job}
 use Rattle.vf_plan.specs.declared.plan.Node.{Node}
 use Rattle.vf_jobs.specs.Jobs.{node_of}
@@ -32,3 +32,7 @@ pub record AreNumbered (nodes : List Node) (listed : List Job) (progress : List 
   pub done_long : length done ≡ length nodes
   pub all_counted : (n : ℕ) → get_or all n 0 ≡ jobs_below nodes n listed
   pub done_counted : (n : ℕ) → get_or done n 0 ≡ over_below nodes n listed progress
+
+-- one past the place of the last job of each node's subtree, at least
+abbrev pub AreEnded : List Node → List Job → List ℕ → Type 0
+AreEnded nodes listed ends = (top k : ℕ) (job : Job) → slice_get listed k ≡ Some job → is_below nodes top (node_of job) ≡ true → k < get_or ends top 0

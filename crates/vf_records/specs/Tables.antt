@@ -8,8 +8,10 @@ use Rattle.vf_plan.specs.declared.plan.Node.{Node}
 use Rattle.vf_journal.specs.declared.entry.Kind.{Kind}
 use Rattle.vf_journal.specs.declared.entry.Kind.TheVariants.{Unknown}
 use Rattle.vf_journal.specs.declared.entry.Told.{Told}
+use Rattle.vf_jobs.specs.Jobs.{node_no}
+use Rattle.vf_journal.specs.Holding.{AreDistinct}
 use Rattle.vf_journal.specs.Records as seen
-use Rattle.vf_journal.specs.Records.{Held, Stage, idle, running, deferred, over, Records, same_job}
+use Rattle.vf_journal.specs.Records.{Held, Stage, idle, running, deferred, over, Records, same_job, is_base}
 use Rattle.vf_records.specs.declared.layout.Place.{Place}
 use Rattle.vf_records.specs.declared.row.Attempt.{Attempt}
 use Rattle.vf_records.specs.declared.row.HeldImage.{HeldImage}
@@ -17,7 +19,7 @@ use Rattle.vf_records.specs.declared.row.Progress.{Progress}
 use Rattle.vf_records.specs.declared.row.Progress.TheVariants as rows
 use Rattle.vf_records.specs.declared.tables.Tables.{Tables}
 use Rattle.vf_records.specs.Layout.{place_in, IsLaidOut}
-use Rattle.vf_records.specs.Counts.{AreNumbered}
+use Rattle.vf_records.specs.Counts.{AreNumbered, AreEnded, one}
 pub use Rattle.vf_records.specs.Counts.{is_over_progress}
 
 -- ---- what the tables say
@@ -95,6 +97,14 @@ AreCounted counts held = All (λ (h : HeldImage). h.counts ≡ counts (held_of h
 abbrev pub AreImaged : List HeldImage → List (Option HeldImage) → Type 0
 AreImaged held images = (n : ℕ) → get_or images n None ≡ find (λ (h : HeldImage). h.node.0 == n) held
 
+-- how many of these images stand on the image of a node
+abbrev pub pins_in : List HeldImage → ℕ → ℕ
+pins_in held n = sum_by (λ (h : HeldImage). one (is_base (node_no n) h.base)) held
+
+-- each node has the number of the images that stand on its own
+abbrev pub ArePinned : List HeldImage → List ℕ → Type 0
+ArePinned held pins = (n : ℕ) → n < length pins → get_or pins n 0 ≡ pins_in held n
+
 -- the jobs of the first places are over
 abbrev pub AreOver : List Progress → ℕ → Type 0
 AreOver progress first = (k : ℕ) → k < first → is_over_progress (get_or progress k rows.Idle) ≡ true
@@ -110,5 +120,10 @@ pub record AreTables (nodes : List Node) (counts : Held → Header) (t : Tables)
   pub within : All (λ (h : HeldImage). h.node.0 < length nodes) t.held.items
   pub imaged : AreImaged t.held.items t.images.items
   pub images : length t.images.items ≡ length nodes
+  pub apart : AreDistinct (map held_of t.held.items)
+  pub pinned : ArePinned t.held.items t.pins.items
+  pub pins : length t.pins.items ≡ length nodes
   pub numbered : AreNumbered nodes t.layout.jobs.items t.progress.items t.all.items t.done.items
+  pub ended : AreEnded nodes t.layout.jobs.items t.ends.items
+  pub ends : length t.ends.items ≡ length nodes
   pub room : HasRoom t

@@ -23,7 +23,7 @@ pub(crate) fn nodes(setup: &Setup) -> &[Node]
 }
 
 /// One more, where there is room.
-fn more(count: usize) -> usize
+pub(crate) fn more(count: usize) -> usize
     ensures { count + 1 < 2 ^ 64 → result ≡ count + 1 }
 {
     if count < usize::MAX { count + 1 } else { count }

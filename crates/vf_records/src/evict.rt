@@ -2,11 +2,11 @@
 
 ghost use Rattle.std.specs.Prelude.{◌≡◌, ◌<◌, not, None, Some, length, map, option_map, IfSome};
 ghost use Rattle.vf_plan.specs.Paths.{path};
-ghost use Rattle.vf_journal.specs.Records.{is_base, is_pinned};
+ghost use Rattle.vf_journal.specs.Records.{is_pinned};
 ghost use Rattle.vf_journal.specs.Journal.{goes_before, next_evicted};
 ghost use Rattle.vf_records.specs.Account.{farm_of, solo_of};
 ghost use Rattle.vf_records.specs.Evictions.{much_of, earlier_in};
-ghost use Rattle.vf_records.specs.Tables.{held_of, records_of, AreTables};
+ghost use Rattle.vf_records.specs.Tables.{held_of, records_of, AreTables, ArePinned};
 
 use crate::row::HeldImage;
 use crate::tables::Tables;
@@ -72,26 +72,14 @@ fn earlier(setup: &Setup, image: HeldImage, best: Option<HeldImage>) -> HeldImag
     }
 }
 
-fn is_base(node: NodeNo, base: Option<NodeNo>) -> bool
-    ensures { result ≡ is_base node base }
-{
-    match base {
-        Some(base) => base.0 == node.0,
-        None => false,
-    }
-}
-
 impl Tables {
     /// Whether an incremental image on a node's image is held.
     fn is_pinned(&self, node: NodeNo) -> bool
+        requires pinned { ArePinned self.now.held.items self.now.pins.items }
+        requires node { node.0 < length self.now.pins.items }
         ensures { result ≡ is_pinned (records_of self.now) node }
     {
-        for at in 0..self.held.len() {
-            if is_base(node, self.held[at].base) {
-                return true;
-            }
-        }
-        false
+        self.pins[node.0 as usize] > 0
     }
 
     /// The node of the image that the order chooses among those that are not pinned.

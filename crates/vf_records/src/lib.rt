@@ -7,11 +7,13 @@
 #![tactic(auto)]
 
 mod counts;
+mod ends;
 mod events;
 mod evict;
 mod layout;
 mod next;
 mod outcome;
+mod pins;
 mod ready;
 mod records;
 mod row;

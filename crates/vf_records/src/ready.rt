@@ -27,7 +27,7 @@ use vf_journal::{JobState, Kind};
 use vf_plan::Plan;
 
 /// The image at a place, where there is one.
-fn image_at(images: &Vec<Option<HeldImage>>, at: usize) -> Option<HeldImage>
+pub(crate) fn image_at(images: &Vec<Option<HeldImage>>, at: usize) -> Option<HeldImage>
     ensures { result ≡ get_or images.now.items at None }
 {
     if at < images.len() { images[at] } else { None }

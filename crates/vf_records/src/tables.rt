@@ -7,6 +7,7 @@ ghost use Rattle.vf_jobs.specs.Jobs as jobs;
 ghost use Rattle.vf_jobs.specs.Subtree.{is_below};
 
 use crate::counts::{counted, nodes};
+use crate::ends::ends_of;
 use crate::layout::{Layout, filled};
 use crate::row::{HeldImage, Progress};
 use std::alloc::Global;
@@ -27,10 +28,14 @@ pub(crate) struct Tables {
     pub(crate) held: Vec<HeldImage>,
     /// The image of each node, where it is held.
     pub(crate) images: Vec<Option<HeldImage>>,
+    /// How many held images stand on the image of each node.
+    pub(crate) pins: Vec<usize>,
     /// How many jobs there are in each node's subtree.
     pub(crate) all: Vec<usize>,
     /// How many of these are over.
     pub(crate) done: Vec<usize>,
+    /// The jobs of each node's subtree stand before this place.
+    pub(crate) ends: Vec<usize>,
     pub(crate) journal: Vec<Entry>,
 }
 
@@ -68,8 +73,10 @@ impl Tables {
         let kinds = filled(alloc, Kind::Unknown, setup.plan.nodes.len())?;
         let held = Vec::with_capacity(alloc, most)?;
         let images = filled(alloc, None, setup.plan.nodes.len())?;
+        let pins = filled(alloc, 0, setup.plan.nodes.len())?;
         let all = counted(alloc, nodes(setup), &layout.jobs)?;
         let done = filled(alloc, 0, setup.plan.nodes.len())?;
+        let ends = ends_of(alloc, nodes(setup), &layout.jobs)?;
         let journal = Vec::with_capacity(alloc, most)?;
         Ok(Tables {
             layout,
@@ -79,8 +86,10 @@ impl Tables {
             first: 0,
             held,
             images,
+            pins,
             all,
             done,
+            ends,
             journal,
         })
     }

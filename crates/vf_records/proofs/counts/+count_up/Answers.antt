@@ -1,4 +1,4 @@
-use Rattle.std.proofs.Common.{◌≡◌, ◌<◌, Some, refl, slice_get, length, arith}
+use Rattle.std.proofs.Common.{◌≡◌, Some, refl, slice_get, length, arith}
 use Rattle.std.proofs.lemmas.Option.{slice_get_read}
 use Rattle.vf_records.proofs.CountLemmas.{counted_root, counted_up}
 use Rattle.vf_records.proofs.counts.+count_up.Goals as goal

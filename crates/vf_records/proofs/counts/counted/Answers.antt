@@ -1,7 +1,6 @@
-use Rattle.std.proofs.Common.{◌≡◌, ◌+◌, ◌<◌, ◌≤◌, ◌∙◌, ℕ, List, Some, refl, sym, ap, slice_get, get_or, length, take, arith}
+use Rattle.std.proofs.Common.{◌≡◌, ◌+◌, ◌∙◌, ℕ, List, Some, refl, sym, ap, slice_get, get_or, length, take, arith}
 use Rattle.std.proofs.lemmas.List.{length-replicate}
 use Rattle.std.proofs.lemmas.Option.{slice_get_read}
-use Rattle.vf_jobs.specs.Jobs.{node_of}
 use Rattle.vf_jobs.specs.Subtree.{is_below}
 use Rattle.vf_records.specs.Counts.{one, jobs_below}
 use Rattle.vf_records.proofs.CountLemmas.{counted_next, one_most, below_most, taken_most, none_below, take_none, take_all}

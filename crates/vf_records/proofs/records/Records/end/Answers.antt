@@ -1,4 +1,4 @@
-use Rattle.std.proofs.Common.{◌≡◌, ◌∙◌, ◌++◌, ◌∷◌, Option, Some, option_map, length, sym, ap, ap₂}
+use Rattle.std.proofs.Common.{◌≡◌, ◌∙◌, ◌++◌, ◌∷◌, Option, Some, option_map, sym, ap, ap₂}
 use Rattle.vf_journal.specs.declared.entry.Entry.TheVariants.{End}
 use Rattle.vf_base.specs.declared.run.Outcome.{Outcome}
 use Rattle.vf_jobs.specs.Setup.{Conditions}
@@ -10,7 +10,7 @@ use Rattle.vf_records.specs.declared.spread.Reached.TheVariants as reached
 use Rattle.vf_records.specs.Account.{farm_of, solo_of}
 use Rattle.vf_records.specs.Spreads.{spread_seen}
 use Rattle.vf_records.specs.Tables.{records_of}
-use Rattle.vf_records.proofs.RecordLemmas.{setup_is, ended_running, spread_end, spread_node, made}
+use Rattle.vf_records.proofs.RecordLemmas.{setup_is, ended_running, spread_end, spread_node, serve_at, made}
 use Rattle.vf_records.proofs.records.Records.end.Goals as goal
 
 pub settle-requires-clause-job : goal.settle-requires-clause-job
@@ -19,10 +19,11 @@ settle-requires-clause-job c = (ended_running c.self.inside c.args.self.now c.se
 pub settle-requires-clause-left : goal.settle-requires-clause-left
 settle-requires-clause-left c = (ended_running c.self.inside c.args.self.now c.self.view_is c.self.invariant c.deref.result.now c.deref.ensures c.args.job c.requires.lawful.guard.0 c.requires.lawful.guard.1).left
 
-pub settle-requires-clause-node : goal.settle-requires-clause-node
-settle-requires-clause-node c =
-    spread_node c.args.job (length c.deref.result.now.plan) c.spread_of-spread.result kinds.Ended (reached.Ending c.args.counts) c.spread_of-spread.ensures
-    (ended_running c.self.inside c.args.self.now c.self.view_is c.self.invariant c.deref.result.now c.deref.ensures c.args.job c.requires.lawful.guard.0 c.requires.lawful.guard.1).node
+pub settle-requires-clause-spread : goal.settle-requires-clause-spread
+settle-requires-clause-spread c = spread_node c.args.job c.spread_of-spread.result kinds.Ended (reached.Ending c.args.counts) c.spread_of-spread.ensures
+
+pub settle-requires-clause-serve : goal.settle-requires-clause-serve
+settle-requires-clause-serve c = serve_at c.self.inside c.self.invariant c.deref.result.now c.deref.ensures
 
 pub invariant_of-self : goal.invariant_of-self
 invariant_of-self c =

@@ -1,6 +1,6 @@
 use Rattle.std.proofs.Common.{◌∙◌, ap}
 use Rattle.vf_journal.specs.Records.{Records, outcome_told}
-use Rattle.vf_records.proofs.RecordLemmas.{setup_is, records_is, tables_at}
+use Rattle.vf_records.proofs.RecordLemmas.{records_is, tables_at}
 use Rattle.vf_records.proofs.records.Records.outcome.Goals as goal
 
 pub outcome-requires : goal.outcome-requires

@@ -1,6 +1,6 @@
 use Rattle.vf_journal.specs.declared.entry.Entry.TheVariants.{Pass}
 use Rattle.vf_base.specs.declared.names.Job.TheVariants.{Reach}
-use Rattle.vf_records.proofs.RecordLemmas.{ended_running, made}
+use Rattle.vf_records.proofs.RecordLemmas.{ended_running, serve_at, made}
 use Rattle.vf_records.proofs.records.Records.pass.Goals as goal
 
 pub settle-requires-clause-job : goal.settle-requires-clause-job
@@ -8,6 +8,9 @@ settle-requires-clause-job c = (ended_running c.self.inside c.args.self.now c.se
 
 pub settle-requires-clause-left : goal.settle-requires-clause-left
 settle-requires-clause-left c = (ended_running c.self.inside c.args.self.now c.self.view_is c.self.invariant c.deref.result.now c.deref.ensures (Reach c.args.node) c.requires.guard.0 c.requires.guard.1).left
+
+pub settle-requires-clause-serve : goal.settle-requires-clause-serve
+settle-requires-clause-serve c = serve_at c.self.inside c.self.invariant c.deref.result.now c.deref.ensures
 
 pub invariant_of-self : goal.invariant_of-self
 invariant_of-self c =

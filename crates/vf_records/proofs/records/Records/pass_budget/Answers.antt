@@ -1,4 +1,4 @@
-use Rattle.std.proofs.Common.{◌≡◌, ◌∙◌, ◌++◌, ◌∷◌, Option, Some, option_map, length, sym, ap, ap₂}
+use Rattle.std.proofs.Common.{◌≡◌, ◌∙◌, ◌++◌, ◌∷◌, Option, Some, option_map, sym, ap, ap₂}
 use Rattle.vf_journal.specs.declared.entry.Entry.TheVariants.{Pages}
 use Rattle.vf_base.specs.declared.run.Outcome.TheVariants as outcomes
 use Rattle.vf_base.specs.declared.run.Outcome.{Outcome}
@@ -12,7 +12,7 @@ use Rattle.vf_records.specs.declared.spread.Reached.TheVariants as reached
 use Rattle.vf_records.specs.Account.{farm_of, solo_of}
 use Rattle.vf_records.specs.Spreads.{spread_seen}
 use Rattle.vf_records.specs.Tables.{records_of}
-use Rattle.vf_records.proofs.RecordLemmas.{setup_is, ended_running, spread_pass, spread_node, made}
+use Rattle.vf_records.proofs.RecordLemmas.{setup_is, ended_running, spread_pass, spread_node, serve_at, made}
 use Rattle.vf_records.proofs.records.Records.pass_budget.Goals as goal
 
 pub limits_of-requires : goal.limits_of-requires
@@ -24,10 +24,11 @@ settle-requires-clause-job c = (ended_running c.self.inside c.args.self.now c.se
 pub settle-requires-clause-left : goal.settle-requires-clause-left
 settle-requires-clause-left c = (ended_running c.self.inside c.args.self.now c.self.view_is c.self.invariant c.deref-2.result.now c.deref-2.ensures c.args.job c.requires.guard.0.attempt c.requires.guard.0.runs).left
 
-pub settle-requires-clause-node : goal.settle-requires-clause-node
-settle-requires-clause-node c =
-    spread_node c.args.job (length c.deref-2.result.now.plan) c.spread_of-spread.result kinds.Over (reached.Passing c.args.turn c.limits_of.result) c.spread_of-spread.ensures
-    (ended_running c.self.inside c.args.self.now c.self.view_is c.self.invariant c.deref-2.result.now c.deref-2.ensures c.args.job c.requires.guard.0.attempt c.requires.guard.0.runs).node
+pub settle-requires-clause-spread : goal.settle-requires-clause-spread
+settle-requires-clause-spread c = spread_node c.args.job c.spread_of-spread.result kinds.Over (reached.Passing c.args.turn c.limits_of.result) c.spread_of-spread.ensures
+
+pub settle-requires-clause-serve : goal.settle-requires-clause-serve
+settle-requires-clause-serve c = serve_at c.self.inside c.self.invariant c.deref-2.result.now c.deref-2.ensures
 
 pub invariant_of-self : goal.invariant_of-self
 invariant_of-self c =

@@ -5,7 +5,7 @@ use Rattle.vf_jobs.specs.Setup.{IsSetup}
 use Rattle.vf_journal.specs.Records.{Records, image_of}
 use Rattle.vf_journal.proofs.CallerLemmas.{running_free}
 use Rattle.vf_records.specs.Account.{farm_of, records_in}
-use Rattle.vf_records.proofs.RecordLemmas.{setup_is, records_is, account_kept, ended_running, made}
+use Rattle.vf_records.proofs.RecordLemmas.{setup_is, records_is, account_kept, ended_running, serve_at, made}
 use Rattle.vf_records.proofs.records.Records.save.Goals as goal
 
 pub keep-requires-clause-job : goal.keep-requires-clause-job
@@ -21,6 +21,9 @@ keep-requires-clause-free c =
     (subst IsSetup (setup_is c.self.inside a c.self.view_is c.deref.result.now c.deref.ensures) c.budget-budget.ensures) in
     ap (λ (r : Records). image_of r c.args.image.node) (records_is c.self.inside a c.self.view_is c.self.invariant)
     ∙ running_free (farm_of a.setup) (records_in a) c.args.image.node c.requires.lawful.guard.0 kept.images c.requires.lawful.guard.1
+
+pub keep-requires-clause-serve : goal.keep-requires-clause-serve
+keep-requires-clause-serve c = serve_at c.self.inside c.self.invariant c.deref-2.result.now c.deref-2.ensures
 
 pub invariant_of-self : goal.invariant_of-self
 invariant_of-self c =

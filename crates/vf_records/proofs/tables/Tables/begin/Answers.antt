@@ -9,7 +9,7 @@ use Rattle.vf_records.specs.Layout.{place_in}
 use Rattle.vf_records.specs.Tables.{records_of, to_come, is_over_progress}
 use Rattle.vf_records.proofs.CountLemmas.{over_same}
 use Rattle.vf_records.proofs.TableLemmas.{quiet_run}
-use Rattle.vf_records.proofs.EventLemmas.{placed_job, ready_job, idle_at, idle_not_over, over_run, used, begun_with}
+use Rattle.vf_records.proofs.EventLemmas.{placed_ready, idle_at, idle_not_over, over_run, used, begun_with}
 use Rattle.vf_records.proofs.tables.Tables.begin.Goals as goal
 
 pub origin-origin-requires-clause-node : goal.origin-origin-requires-clause-node
@@ -17,8 +17,7 @@ origin-origin-requires-clause-node c =
     let s = c.args.setup.now in
     let t = c.args.self.now in
     let kept = c.requires.tables in
-    let is = ready_job s (solo_of s).counts t kept c.args.job c.requires.ready in
-    let placed = placed_job s (solo_of s).counts t kept c.args.job is in
+    let placed = placed_ready s (solo_of s).counts t kept c.args.job c.requires.ready in
     omega (arith, placed.node, kept.layout.long)
 
 pub attempt_from-attempt-requires : goal.attempt_from-attempt-requires
@@ -29,8 +28,7 @@ place-place-requires c =
     let s = c.args.setup.now in
     let t = c.args.self.now in
     let kept = c.requires.tables in
-    let is = ready_job s (solo_of s).counts t kept c.args.job c.requires.ready in
-    let placed = placed_job s (solo_of s).counts t kept c.args.job is in
+    let placed = placed_ready s (solo_of s).counts t kept c.args.job c.requires.ready in
     placed.node
 
 pub index_mut-requires : goal.index_mut-requires
@@ -38,8 +36,7 @@ index_mut-requires c =
     let s = c.args.setup.now in
     let t = c.args.self.now in
     let kept = c.requires.tables in
-    let is = ready_job s (solo_of s).counts t kept c.args.job c.requires.ready in
-    let placed = placed_job s (solo_of s).counts t kept c.args.job is in
+    let placed = placed_ready s (solo_of s).counts t kept c.args.job c.requires.ready in
     omega (arith, placed.progress, c.place-place.ensures, t.progress.ok.0)
 
 pub push_reserved-requires : goal.push_reserved-requires
@@ -47,8 +44,7 @@ push_reserved-requires c =
     let s = c.args.setup.now in
     let t = c.args.self.now in
     let kept = c.requires.tables in
-    let is = ready_job s (solo_of s).counts t kept c.args.job c.requires.ready in
-    let placed = placed_job s (solo_of s).counts t kept c.args.job is in
+    let placed = placed_ready s (solo_of s).counts t kept c.args.job c.requires.ready in
     let p = place_in t.layout.places.items c.args.job in
     let attempt = c.attempt_from-attempt.result in
     let idle = idle_at s (solo_of s).counts t kept c.args.job c.requires.ready in
@@ -62,8 +58,7 @@ returns-clause-records c =
     let s = c.args.setup.now in
     let t = c.args.self.now in
     let kept = c.requires.tables in
-    let is = ready_job s (solo_of s).counts t kept c.args.job c.requires.ready in
-    let placed = placed_job s (solo_of s).counts t kept c.args.job is in
+    let placed = placed_ready s (solo_of s).counts t kept c.args.job c.requires.ready in
     let k = c.place-place.result in
     let same : k ≡ place_in t.layout.places.items c.args.job = c.place-place.ensures in
     let at : slice_get t.layout.jobs.items k ≡ Some c.args.job = ap (slice_get t.layout.jobs.items) same ∙ placed.at in
@@ -77,8 +72,7 @@ returns-clause-tables c =
     let s = c.args.setup.now in
     let t = c.args.self.now in
     let kept = c.requires.tables in
-    let is = ready_job s (solo_of s).counts t kept c.args.job c.requires.ready in
-    let placed = placed_job s (solo_of s).counts t kept c.args.job is in
+    let placed = placed_ready s (solo_of s).counts t kept c.args.job c.requires.ready in
     let p = place_in t.layout.places.items c.args.job in
     let attempt = c.attempt_from-attempt.result in
     let idle = idle_at s (solo_of s).counts t kept c.args.job c.requires.ready in
@@ -104,6 +98,9 @@ returns-clause-tables c =
       within = kept.within;
       imaged = kept.imaged;
       images = kept.images;
+      apart = kept.apart;
+      pinned = kept.pinned;
+      pins = kept.pins;
       numbered = record {
         all_long = kept.numbered.all_long;
         done_long = kept.numbered.done_long;
@@ -113,5 +110,7 @@ returns-clause-tables c =
             ∙ sym (over_same s.plan n t.layout.jobs.items t.progress.items k (rows.Running attempt) refl
             (ap (λ m. is_over_progress (get_or t.progress.items m rows.Idle)) same ∙ idle_not_over (get_or t.progress.items p rows.Idle) idle));
       };
+      ended = kept.ended;
+      ends = kept.ends;
       room = record { most = omega (arith, longer, less, most); journal = omega (arith, room, c.push_reserved.ensures.capacity); held = kept.room.held };
     }

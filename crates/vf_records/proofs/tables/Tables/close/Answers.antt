@@ -1,4 +1,4 @@
-use Rattle.std.proofs.Common.{◌≡◌, ℕ, ◌<◌, ◌≤◌, ◌+◌, ◌*◌, ◌^◌, ◌∙◌, List, [], ◌∷◌, Some, length, sym, ap, ap₂, subst, arith, slice_get, slice_set, get_or, sum_by, length-append}
+use Rattle.std.proofs.Common.{◌≡◌, ℕ, ◌<◌, ◌≤◌, ◌+◌, ◌*◌, ◌∙◌, List, [], ◌∷◌, Some, length, sym, ap, ap₂, subst, arith, slice_get, slice_set, get_or, sum_by, length-append}
 use Rattle.std.proofs.lemmas.Bool.{false≢true}
 use Rattle.std.proofs.lemmas.List.{length-set}
 use Rattle.vf_records.specs.declared.row.Progress.TheVariants as rows
@@ -11,7 +11,7 @@ use Rattle.vf_records.proofs.CountLemmas.{one_most, over_more, over_within}
 use Rattle.vf_records.specs.Layout.{place_in}
 use Rattle.vf_records.specs.Tables.{to_come, IsQuiet}
 use Rattle.vf_records.proofs.TableLemmas.{quiet_set}
-use Rattle.vf_records.proofs.EventLemmas.{placed_job, not_over_at, over_set, spent, closed, kinds_long}
+use Rattle.vf_records.proofs.EventLemmas.{placed_job, not_over_at, over_set, spent_at, closed, kinds_long}
 use Rattle.vf_records.proofs.tables.Tables.close.Goals as goal
 
 pub place-place-requires : goal.place-place-requires
@@ -55,9 +55,7 @@ push_reserved-requires c =
     let s = c.args.setup.now in
     let t = c.args.self.now in
     let kept = c.requires.tables in
-    let placed = placed_job s (solo_of s).counts t kept c.args.job c.requires.job in
-    let p = place_in t.layout.places.items c.args.job in
-    let spend = spent t.progress.items p placed.progress (not_over_at s (solo_of s).counts t kept c.args.job c.requires.job c.requires.left) in
+    let spend = spent_at s (solo_of s).counts t kept c.args.job c.requires.job c.requires.left in
     let most : length t.journal.items + sum_by to_come t.progress.items + length t.held.items ≤ 3 * length t.layout.jobs.items = kept.room.most in
     let room = kept.room.journal in
     omega (arith, spend, most, room, t.journal.ok.0)
@@ -83,7 +81,7 @@ returns-clause-tables c =
     let kept = c.requires.tables in
     let placed = placed_job s (solo_of s).counts t kept c.args.job c.requires.job in
     let p = place_in t.layout.places.items c.args.job in
-    let spend = spent t.progress.items p placed.progress (not_over_at s (solo_of s).counts t kept c.args.job c.requires.job c.requires.left) in
+    let spend = spent_at s (solo_of s).counts t kept c.args.job c.requires.job c.requires.left in
     let most : length t.journal.items + sum_by to_come t.progress.items + length t.held.items ≤ 3 * length t.layout.jobs.items = kept.room.most in
     let room = kept.room.journal in
     let k = c.place-place.result in
@@ -105,6 +103,9 @@ returns-clause-tables c =
       within = kept.within;
       imaged = kept.imaged;
       images = kept.images;
+      apart = kept.apart;
+      pinned = kept.pinned;
+      pins = kept.pins;
       numbered = record {
         all_long = kept.numbered.all_long;
         done_long = c.count_up.ensures.length ∙ ap (λ (ns : List Node). length ns) c.nodes.ensures.nodes;
@@ -120,6 +121,8 @@ returns-clause-tables c =
             ∙ sym (over_more s.plan n t.layout.jobs.items t.progress.items k c.args.job (ap (slice_get t.layout.jobs.items) same ∙ placed.at) progress
             (ap (λ m. is_over_progress (get_or t.progress.items m rows.Idle)) same ∙ not_over_at s (solo_of s).counts t kept c.args.job c.requires.job c.requires.left));
       };
+      ended = kept.ended;
+      ends = kept.ends;
       room = record { most = omega (arith, longer, less, most); journal = omega (arith, room, c.push_reserved.ensures.capacity); held = kept.room.held };
     }
 
@@ -128,9 +131,8 @@ returns-clause-slack c =
     let s = c.args.setup.now in
     let t = c.args.self.now in
     let kept = c.requires.tables in
-    let placed = placed_job s (solo_of s).counts t kept c.args.job c.requires.job in
     let p = place_in t.layout.places.items c.args.job in
-    let spend = spent t.progress.items p placed.progress (not_over_at s (solo_of s).counts t kept c.args.job c.requires.job c.requires.left) in
+    let spend = spent_at s (solo_of s).counts t kept c.args.job c.requires.job c.requires.left in
     let most : length t.journal.items + sum_by to_come t.progress.items + length t.held.items ≤ 3 * length t.layout.jobs.items = kept.room.most in
     let room = kept.room.journal in
     let same : c.place-place.result ≡ p = c.place-place.ensures in

@@ -1,15 +1,18 @@
-use Rattle.std.proofs.Common.{◌≡◌, ◌<◌, ◌≤◌, ◌+◌, ◌*◌, ◌∙◌, ◌==◌, not, None, List, [], ◌∷◌, length, map, refl, sym, ap, subst, arith, sum_by, vec_capacity, length-append}
+use Rattle.std.proofs.Common.{◌≡◌, ◌<◌, ◌≤◌, ◌+◌, ◌*◌, ◌∙◌, ◌==◌, not, None, List, [], ◌∷◌, length, map, refl, sym, ap, subst, arith, sum_by, vec_capacity, get_or, length-append}
 use Rattle.std.specs.List.{filter, All}
 use Rattle.std.proofs.lemmas.List.{length-set}
 use Rattle.std.proofs.lemmas.List.Elements.{All-filter}
+use Rattle.vf_journal.specs.Holding.{AreDistinct}
 use Rattle.vf_journal.specs.Records.{Held}
+use Rattle.vf_journal.proofs.CallerLemmas.{distinct_filtered}
 use Rattle.vf_records.specs.declared.row.HeldImage.{HeldImage}
 use Rattle.vf_records.specs.declared.tables.Tables.{Tables}
 use Rattle.vf_records.specs.Account.{solo_of}
-use Rattle.vf_records.specs.Tables.{held_of, to_come, records_of, AreTables, AreImaged}
+use Rattle.vf_records.specs.Tables.{held_of, to_come, records_of, AreTables, AreImaged, ArePinned}
 use Rattle.vf_records.proofs.RetireLemmas.{map_filter}
 use Rattle.vf_records.proofs.FollowLemmas.{fewer}
 use Rattle.vf_records.proofs.ImageTable.{imaged_less, within_found}
+use Rattle.vf_records.proofs.PinLemmas.{pinned_less, found_row}
 use Rattle.vf_records.proofs.tables.Tables.give_back.Goals as goal
 
 pub release-requires : goal.release-requires
@@ -42,7 +45,7 @@ returns-clause-tables c =
     let most : length t.journal.items + sum_by to_come t.progress.items + length t.held.items ≤ 3 * length t.layout.jobs.items = kept.room.most in
     let wide = kept.room.journal in
     let wide_held = kept.room.held in
-    subst (λ (y : Tables). AreTables s.plan (solo_of s).counts (record y { held = x.held; images = x.images; journal = c.push_reserved.new.self })) (sym c.release.ensures.rest)
+    subst (λ (y : Tables). AreTables s.plan (solo_of s).counts (record y { held = x.held; images = x.images; pins = x.pins; journal = c.push_reserved.new.self })) (sym c.release.ensures.rest)
     (record {
       layout = kept.layout;
       progress = kept.progress;
@@ -57,7 +60,16 @@ returns-clause-tables c =
           (imaged_less t.held.items t.images.items c.args.node kept.imaged
           (let images = kept.images in let inside = within_found t.held.items (length s.plan) c.args.node.0 kept.within c.requires.image in omega (arith, images, inside))));
       images = ap length c.release.ensures.images ∙ length-set t.images.items c.args.node.0 None ∙ kept.images;
+      apart = subst (λ (hs : List HeldImage). AreDistinct (map held_of hs)) (sym c.release.ensures.held)
+          (subst AreDistinct (sym (map_filter held_of stays (λ (h : Held). not (h.node.0 == c.args.node.0)) (λ h. refl) t.held.items))
+          (distinct_filtered (λ (h : Held). not (h.node.0 == c.args.node.0)) (map held_of t.held.items) kept.apart));
+      pinned = subst (λ (hs : List HeldImage). ArePinned hs x.pins.items) (sym c.release.ensures.held)
+          (pinned_less t.held.items t.images.items t.pins.items x.pins.items c.args.node (get_or t.images.items c.args.node.0 None) kept.apart kept.imaged kept.pinned refl
+          (found_row t.held.items t.images.items c.args.node kept.imaged c.requires.image) c.release.ensures.pins_length c.release.ensures.pins);
+      pins = c.release.ensures.pins_length ∙ kept.pins;
       numbered = kept.numbered;
+      ended = kept.ended;
+      ends = kept.ends;
       room = record {
         most = omega (arith, less, left, old, longer, most);
         journal = omega (arith, room, wide, c.push_reserved.ensures.capacity);

@@ -1,7 +1,6 @@
-use Rattle.std.proofs.Common.{◌≡◌, ℕ, ◌<◌, ◌∙◌, nat_lt, ◌&&◌, not, length, sym, ap, ap₂, arith}
+use Rattle.std.proofs.Common.{◌<◌, ◌∙◌, nat_lt, ◌&&◌, not, length, sym, ap, ap₂, arith}
 use Rattle.std.specs.List.{list_any}
 use Rattle.std.proofs.lemmas.List.{get_or_read}
-use Rattle.vf_base.specs.declared.names.Job.{Job}
 use Rattle.vf_jobs.specs.Jobs.{node_of}
 use Rattle.vf_jobs.specs.Subtree.{is_below}
 use Rattle.vf_journal.specs.Records.{is_over}

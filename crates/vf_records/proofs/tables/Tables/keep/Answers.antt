@@ -3,17 +3,21 @@ use Rattle.std.specs.List.{All, find}
 use Rattle.std.proofs.lemmas.List.{map-append, length-set}
 use Rattle.std.proofs.lemmas.List.Elements.{All-push}
 use Rattle.vf_base.specs.declared.names.Job.TheVariants.{Reach}
+use Rattle.vf_jobs.specs.Jobs.{node_no}
 use Rattle.vf_journal.specs.declared.entry.Entry.{Entry}
 use Rattle.vf_journal.specs.declared.entry.Entry.TheVariants.{Saved}
 use Rattle.vf_journal.specs.declared.entry.Kind.TheVariants as kinds
+use Rattle.vf_journal.specs.Holding.{AreDistinct}
 use Rattle.vf_journal.specs.Records.{Held, Records}
-use Rattle.vf_journal.specs.Effects.{with_over, retirings, without_unneeded}
+use Rattle.vf_journal.specs.Effects.{with_over, retirings, without_unneeded, is_retired}
 use Rattle.vf_records.specs.declared.layout.Layout.{Layout}
 use Rattle.vf_records.specs.declared.row.HeldImage.{HeldImage}
 use Rattle.vf_records.specs.Account.{farm_of, solo_of}
-use Rattle.vf_records.specs.Tables.{held_of, to_come, records_of, AreImaged}
+use Rattle.vf_records.specs.Tables.{held_of, to_come, records_of, AreImaged, ArePinned}
 use Rattle.vf_records.proofs.EventLemmas.{placed_job}
 use Rattle.vf_records.proofs.ImageTable.{imaged_more, none_rows}
+use Rattle.vf_records.proofs.PinLemmas.{distinct_last, pinned_more}
+use Rattle.vf_records.proofs.ServeLemmas.{saved_way}
 use Rattle.vf_records.proofs.tables.Tables.keep.Goals as goal
 
 pub show-requires : goal.show-requires
@@ -24,8 +28,8 @@ show-requires c =
     let images = c.close.ensures.tables.images in
     omega (arith, node, long, images)
 
-pub retire-requires : goal.retire-requires
-retire-requires c =
+pub retire-requires-clause-tables : goal.retire-requires-clause-tables
+retire-requires-clause-tables c =
     let s = c.args.setup.now in
     let t = c.args.self.now in
     let x = c.close.new.self in
@@ -53,13 +57,41 @@ retire-requires c =
           (imaged_more x.held.items x.images.items image kept.imaged (omega (arith, node, long, kept.images))
           (none_rows x.held.items image.node.0 (ap (λ (r : Records). find (λ (h : Held). h.node.0 == image.node.0) r.held) c.close.ensures.records ∙ c.requires.free))));
       images = ap length c.show.ensures ∙ length-set x.images.items image.node.0 (Some image) ∙ kept.images;
+      apart = subst (λ (hs : List HeldImage). AreDistinct (map held_of hs)) (sym c.push_reserved.ensures.items)
+          (subst AreDistinct (sym (map-append held_of x.held.items (image ∷ [])))
+          (distinct_last (map held_of x.held.items) (held_of image) kept.apart
+          (ap (λ (r : Records). find (λ (h : Held). h.node.0 == image.node.0) r.held) c.close.ensures.records ∙ c.requires.free)));
+      pinned = subst (λ (hs : List HeldImage). ArePinned hs c.pin.new.pins.items) (sym c.push_reserved.ensures.items)
+          (pinned_more x.held.items x.pins.items c.pin.new.pins.items image kept.pinned (omega (arith, wide, most, slack, same, x.held.ok.0)) c.pin.ensures.length c.pin.ensures.counted);
+      pins = c.pin.ensures.length ∙ kept.pins;
       numbered = kept.numbered;
+      ended = kept.ended;
+      ends = kept.ends;
       room = record {
         most = omega (arith, slack, most, longer, same);
         journal = kept.room.journal;
         held = omega (arith, wide, c.push_reserved.ensures.capacity);
       };
     }
+
+pub retire-requires-clause-last : goal.retire-requires-clause-last
+retire-requires-clause-last c =
+    let placed = placed_job c.args.setup.now (solo_of c.args.setup.now).counts c.args.self.now c.requires.tables (Reach c.args.image.node) c.requires.job in
+    let node = placed.node in
+    let long = c.requires.tables.layout.long in
+    omega (arith, node, long)
+
+pub retire-requires-clause-way : goal.retire-requires-clause-way
+retire-requires-clause-way c = λ n gone other.
+    let s = c.args.setup.now in
+    let t = c.args.self.now in
+    let x = c.close.new.self in
+    let image = c.args.image in
+    let grown : map held_of c.push_reserved.new.self.items ≡ (records_of t).held ++ held_of image ∷ [] =
+    ap (map held_of) c.push_reserved.ensures.items ∙ map-append held_of x.held.items (image ∷ []) ∙ ap (λ (r : Records). r.held ++ held_of image ∷ []) c.close.ensures.records in
+    let same = ap₂ (λ (r : Records) (hs : List Held). record r { held = hs }) c.close.ensures.records grown in
+    saved_way s (records_of t) (held_of image) (kinds.Saved image.counts.turns) c.requires.serve n (ap (λ (r : Records). is_retired (farm_of s) r (node_no n)) (sym same) ∙ gone)
+    (λ is. other (omega (arith, is)) (omega (arith, is)))
 
 pub returns-clause-records : goal.returns-clause-records
 returns-clause-records c =
