@@ -1,0 +1,4 @@
+mod SortedLemmas
+mod FrontLemmas
+mod PatchLemmas
+mod ChangeLemmas

@@ -1,0 +1,103 @@
+ghost use Rattle.std.specs.Prelude.{◌≡◌, ℕ, ◌<◌, [], List, length, slice_index, slice_set, OnOk, OnErr};
+ghost use Rattle.vf_machine.specs.Writes.{AllInside, IsChange, written};
+
+use crate::front::{FRONT_WORDS, tell_all, tell_marked};
+use crate::sorted::{put, word_of};
+use std::alloc::Global;
+use std::marker::Model;
+use vf_base::{Memory, Write};
+use vf_machine::Words;
+
+/// What a turn has written so far. Contracts see the writes by rising address, one for each address that
+/// was written, whether or not its word is equal to that of the state.
+///
+/// One patch serves a whole run: `clear` keeps its room, so a turn takes memory only where it writes more
+/// words than each turn before it.
+#[derive(Drop)]
+pub struct Patch {
+    // Which of the words at the front are written.
+    mask: u16,
+    // The words written at the front; those that the mask lacks mean nothing.
+    front: [u64; 16],
+    // The writes at other addresses.
+    rest: Vec<Write>,
+}
+
+impl Model for Patch {
+    ghost use Rattle.std.specs.Prelude.{◌≡◌, ◌++◌, List, true};
+    ghost use Rattle.vf_base.specs.declared.write.Write.{Write};
+
+    ghost Value = { List Write };
+
+    ghost use Rattle.vf_machine.specs.Writes.{rises_from};
+    ghost use Rattle.vf_patch.specs.declared.front.TheConstants.{FRONT_WORDS};
+    ghost use Rattle.vf_patch.specs.Patches.{front_writes};
+
+    ghost view = { λ p. front_writes p.mask p.front ++ p.rest.items };
+
+    ghost invariant = { λ p. rises_from FRONT_WORDS p.rest.items ≡ true };
+}
+
+impl Patch {
+    /// Nothing is written.
+    pub fn new(alloc: Global) -> Patch
+        ensures { result ≡ [] }
+    {
+        Patch {
+            mask: 0,
+            front: [0; 16],
+            rest: Vec::new(alloc),
+        }
+    }
+
+    /// Forgets all writes, and keeps the room that they took.
+    pub fn clear(&mut self)
+        ensures { self.new ≡ [] }
+    {
+        self.mask = 0;
+        self.rest.clear();
+    }
+
+    /// Writes a word. It is an error of the caller to write past the words of the state, and such a write is
+    /// not seen. Where it is out of memory the patch is as it was; memory is never taken for the first 16
+    /// words of a state.
+    pub fn set(&mut self, at: u32, word: u64) -> Result<(), Memory>
+        ensures word { OnOk result ((base : List ℕ) → written base self.new ≡ slice_set (written base self.old) at word) }
+        ensures inside { OnOk result ((count : ℕ) → at < count → AllInside count self.old → AllInside count self.new) }
+        ensures err { OnErr result (self.new ≡ self.old) }
+    {
+        if at < FRONT_WORDS {
+            self.mask |= 1 << at;
+            self.front[at as usize] = word;
+            return Ok(());
+        }
+        put(&mut self.rest, at, word)
+    }
+
+    /// The word at an address of the words of a state under the patch.
+    pub fn read<W: Words>(&self, base: &W, at: u32) -> u64
+        requires { at < length (W.contents base.now) }
+        ensures { result ≡ slice_index (written (W.contents base.now) self.now) at }
+    {
+        if at < FRONT_WORDS {
+            if (self.mask >> at) & 1 == 1 {
+                return self.front[at as usize];
+            }
+            return base.read(at);
+        }
+        match word_of(&self.rest, at) {
+            Some(word) => word,
+            None => base.read(at),
+        }
+    }
+
+    /// Tells the writes that change a word of the state, by rising address, in the place of what `into` had.
+    pub fn writes<W: Words>(&self, base: &W, into: &mut Vec<Write>) -> Result<(), Memory>
+        requires { AllInside (length (W.contents base.now)) self.now }
+        ensures { OnOk result (IsChange (W.contents base.now) (written (W.contents base.now) self.now) into.new.items) }
+    {
+        into.clear();
+        tell_marked(base, self.mask, &self.front, into)?;
+        tell_all(base, &self.rest, into)
+    }
+}
