@@ -70,7 +70,9 @@ told-first words w more into into' e =
     ap (λ ws. ws ++ changes words more) e ∙ append_assoc into (changes words (w ∷ [])) (changes words more)
     ∙ ap (λ ws. into ++ ws) (sym (filter-append (is_change words) (w ∷ []) more))
 
--- two lists of writes are told
-pub told-both : (words : List ℕ) (xs ys into into' into'' : List Write) → into ≡ [] → into' ≡ into ++ changes words xs → into'' ≡ into' ++ changes words ys → into'' ≡ changes words (xs ++ ys)
-told-both words xs ys into into' into'' empty first second =
-    second ∙ ap (λ ws. ws ++ changes words ys) (first ∙ ap (λ ws. ws ++ changes words xs) empty) ∙ sym (filter-append (is_change words) xs ys)
+-- two lists of writes are told, after a list that was emptied
+pub told-both : (words : List ℕ) (xs ys ys' none start into into' : List Write) → none ≡ [] → start ≡ none → ys' ≡ ys → into ≡ start ++ changes words xs → into' ≡ into ++ changes words ys' → into' ≡ changes words (xs ++ ys)
+told-both words xs ys ys' none start into into' empty same lent first second =
+    second ∙ ap (λ ws. into ++ changes words ws) lent
+    ∙ ap (λ ws. ws ++ changes words ys) (first ∙ ap (λ ws. ws ++ changes words xs) (same ∙ empty))
+    ∙ sym (filter-append (is_change words) xs ys)

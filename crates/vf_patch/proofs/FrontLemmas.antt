@@ -150,3 +150,17 @@ lowest-marked mask words h k =
       cleared = bit_at_clear_same w16 mask t lowest.0;
       others = λ i lt ne. bit_at_clear_other w16 mask t lowest.0 i lt ne;
     })
+
+-- how many words can be marked
+length-cond : (b : Bool) (w : Write) (ws : List Write) → length (cond b (w ∷ ws) ws) ≤ length ws + 1
+length-cond true w ws = omega arith
+length-cond false w ws = omega arith
+
+length-from : (n at mask : ℕ) (words : List ℕ) → length (marked_from n at mask words) ≤ n
+unfolding marked_from
+length-from zero at mask words = omega arith
+length-from (suc n) at mask words =
+    omega (arith, length-cond (is_marked mask at) (record { at = at; word = slice_index words at }) (marked_from n (suc at) mask words), length-from n (suc at) mask words)
+
+pub length-front : (mask : ℕ) (words : List ℕ) → length (front_writes mask words) ≤ 16
+length-front mask words = length-from 16 0 mask words

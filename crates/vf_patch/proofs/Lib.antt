@@ -2,3 +2,4 @@ mod SortedLemmas
 mod FrontLemmas
 mod PatchLemmas
 mod ChangeLemmas
+mod FilterLemmas

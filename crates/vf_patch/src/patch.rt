@@ -19,7 +19,9 @@ pub struct Patch {
     mask: u16,
     // The words written at the front; those that the mask lacks mean nothing.
     front: [u64; 16],
-    // The writes at other addresses.
+    // The bits that the other writes have by the lowest six bits of their addresses.
+    filter: u64,
+    // The other writes, by rising address.
     rest: Vec<Write>,
 }
 
@@ -31,21 +33,24 @@ impl Model for Patch {
 
     ghost use Rattle.vf_machine.specs.Writes.{rises_from};
     ghost use Rattle.vf_patch.specs.declared.front.TheConstants.{FRONT_WORDS};
-    ghost use Rattle.vf_patch.specs.Patches.{front_writes};
+    ghost use Rattle.vf_patch.specs.Patches.{IsFilter, front_writes};
 
     ghost view = { λ p. front_writes p.mask p.front ++ p.rest.items };
 
-    ghost invariant = { λ p. rises_from FRONT_WORDS p.rest.items ≡ true };
+    ghost invariant = { λ p. (rises_from FRONT_WORDS p.rest.items ≡ true) × IsFilter p.filter p.rest.items };
 }
 
 impl Patch {
-    /// Nothing is written.
+    /// Nothing is written. It is not inlined, so that no other function has room for the words among its
+    /// locals.
+    #[inline(never)]
     pub fn new(alloc: Global) -> Patch
         ensures { result ≡ [] }
     {
         Patch {
             mask: 0,
             front: [0; 16],
+            filter: 0,
             rest: Vec::new(alloc),
         }
     }
@@ -55,6 +60,7 @@ impl Patch {
         ensures { self.new ≡ [] }
     {
         self.mask = 0;
+        self.filter = 0;
         self.rest.clear();
     }
 
@@ -71,6 +77,7 @@ impl Patch {
             self.front[at as usize] = word;
             return Ok(());
         }
+        self.filter |= 1 << (at % 64);
         put(&mut self.rest, at, word)
     }
 
@@ -85,6 +92,9 @@ impl Patch {
             }
             return base.read(at);
         }
+        if (self.filter >> (at % 64)) & 1 == 0 {
+            return base.read(at);
+        }
         match word_of(&self.rest, at) {
             Some(word) => word,
             None => base.read(at),
@@ -97,7 +107,9 @@ impl Patch {
         ensures { OnOk result (IsChange (W.contents base.now) (written (W.contents base.now) self.now) into.new.items) }
     {
         into.clear();
-        tell_marked(base, self.mask, &self.front, into)?;
-        tell_all(base, &self.rest, into)
+        into.reserve(FRONT_WORDS as usize + self.rest.len())?;
+        tell_marked(base, self.mask, &self.front, into);
+        tell_all(base, &self.rest, into);
+        Ok(())
     }
 }

@@ -34,9 +34,6 @@ pub(crate) fn word_of(writes: &Vec<Write>, at: u32) -> Option<u64>
     requires { rises_from FRONT_WORDS writes.now.items ≡ true }
     ensures { result ≡ found writes.now.items at }
 {
-    if follows(writes, at) {
-        return None;
-    }
     match find(writes, at) {
         Ok(place) => Some(writes[place].word),
         Err(_) => None,
@@ -52,29 +49,24 @@ fn follows(writes: &Vec<Write>, at: u32) -> bool
     len == 0 || writes[len - 1].at < at
 }
 
-/// Puts a write in, in the place of one at its address.
+/// Puts a write in, in the place of one at its address. Most addresses rise, so a write after all others
+/// comes first.
 pub(crate) fn put(writes: &mut Vec<Write>, at: u32, word: u64) -> Result<(), Memory>
     requires { rises_from FRONT_WORDS writes.old.items ≡ true }
     ensures ok { OnOk result (IsPut at word writes.old.items writes.new.items) }
     ensures err { OnErr result (writes.new.items ≡ writes.old.items) }
 {
     if follows(writes, at) {
-        return append(writes, at, word);
+        if writes.len() < writes.capacity() {
+            writes.push_reserved(Write { at, word });
+            return Ok(());
+        }
     }
     put_among(writes, at, word)
 }
 
-// Puts a write after all others.
-fn append(writes: &mut Vec<Write>, at: u32, word: u64) -> Result<(), Memory>
-    requires { IsGap at writes.old.items (length writes.old.items) }
-    ensures ok { OnOk result (IsPut at word writes.old.items writes.new.items) }
-    ensures err { OnErr result (writes.new.items ≡ writes.old.items) }
-{
-    writes.push(Write { at, word })?;
-    Ok(())
-}
-
 // Puts a write in, wherever its address stands.
+#[inline(never)]
 fn put_among(writes: &mut Vec<Write>, at: u32, word: u64) -> Result<(), Memory>
     requires { rises_from FRONT_WORDS writes.old.items ≡ true }
     ensures ok { OnOk result (IsPut at word writes.old.items writes.new.items) }
@@ -89,7 +81,8 @@ fn put_among(writes: &mut Vec<Write>, at: u32, word: u64) -> Result<(), Memory>
     }
 }
 
-// Puts a write in between others.
+// Puts a write in between others. It is not inlined, so that what comes before it saves no registers for it.
+#[inline(never)]
 fn insert(writes: &mut Vec<Write>, place: usize, at: u32, word: u64) -> Result<(), Memory>
     requires { IsGap at writes.old.items place }
     ensures ok { OnOk result (IsPut at word writes.old.items writes.new.items) }

@@ -1,11 +1,7 @@
-use Rattle.std.proofs.Common.{Some, length, ap, ◌∙◌, sym}
+use Rattle.std.proofs.Common.{Some, ap, ◌∙◌, sym}
 use Rattle.vf_base.specs.declared.write.Write.{Write}
 use Rattle.vf_patch.proofs.SortedLemmas.{found-place, found-gap}
 use Rattle.vf_patch.proofs.sorted.word_of.Goals as goal
-
-pub returns-then-follows : goal.returns-then-follows
-returns-then-follows c =
-    sym (found-gap c.args.writes.now.items (length c.args.writes.now.items) c.args.at (c.follows.ensures c.if-follows.true))
 
 pub returns-in-Ok : goal.returns-in-Ok
 returns-in-Ok c =

@@ -1,8 +1,0 @@
-use Rattle.std.proofs.Common.{sym, subst}
-use Rattle.vf_patch.specs.Sorted.{IsPut}
-use Rattle.vf_patch.proofs.SortedLemmas.{append-is-put}
-use Rattle.vf_patch.proofs.sorted.append.Goals as goal
-
-pub returns-clause-ok : goal.returns-clause-ok
-returns-clause-ok c =
-    subst (IsPut c.args.at c.args.word c.args.writes.now.items) (sym c.in_ok-push.ensures.items) (append-is-put c.args.writes.now.items c.args.at c.args.word c.requires)
