@@ -7,7 +7,7 @@ use vf_base::Write;
 use vf_machine::Words;
 
 /// How many words at the front of a state have a place of their own in a patch.
-pub(crate) const FRONT_WORDS: u32 = 16;
+pub const FRONT_WORDS: u32 = 16;
 
 // Appends a write, for which there is room, unless the word at its address is equal.
 fn tell<W: Words>(base: &W, at: u32, word: u64, into: &mut Vec<Write>)

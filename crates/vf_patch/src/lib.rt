@@ -12,5 +12,6 @@ mod over;
 mod patch;
 mod sorted;
 
+pub use front::FRONT_WORDS;
 pub use over::Over;
 pub use patch::Patch;

@@ -1,5 +1,6 @@
-ghost use Rattle.std.specs.Prelude.{◌≡◌, ℕ, ◌<◌, [], List, length, slice_index, slice_set, OnOk, OnErr};
+ghost use Rattle.std.specs.Prelude.{◌≡◌, ℕ, ◌<◌, [], List, length, slice_index, slice_set, IsOk, OnOk, OnErr};
 ghost use Rattle.vf_machine.specs.Writes.{AllInside, IsChange, written};
+ghost use Rattle.vf_patch.specs.declared.front.TheConstants.{FRONT_WORDS};
 
 use crate::front::{FRONT_WORDS, tell_all, tell_marked};
 use crate::sorted::{put, word_of};
@@ -64,13 +65,13 @@ impl Patch {
         self.rest.clear();
     }
 
-    /// Writes a word. It is an error of the caller to write past the words of the state, and such a write is
-    /// not seen. Where it is out of memory the patch is as it was; memory is never taken for the first 16
-    /// words of a state.
+    /// Writes a word. A write past the words of a state changes none of them. Where it is out of memory the
+    /// patch is as it was, which never comes at the first `FRONT_WORDS` addresses.
     pub fn set(&mut self, at: u32, word: u64) -> Result<(), Memory>
         ensures word { OnOk result ((base : List ℕ) → written base self.new ≡ slice_set (written base self.old) at word) }
         ensures inside { OnOk result ((count : ℕ) → at < count → AllInside count self.old → AllInside count self.new) }
         ensures err { OnErr result (self.new ≡ self.old) }
+        ensures front { at < FRONT_WORDS → IsOk result }
     {
         if at < FRONT_WORDS {
             self.mask |= 1 << at;
