@@ -1,0 +1,5 @@
+mod SortedLemmas
+mod FrontLemmas
+mod PatchLemmas
+mod ChangeLemmas
+mod FilterLemmas
