@@ -3,6 +3,7 @@ pub mod Nodes
 pub mod Values
 pub mod Shapes
 pub mod WellFormed
+pub mod Printing
 pub mod Layout
 pub mod Inner
 pub mod Laws
