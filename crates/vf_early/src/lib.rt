@@ -14,6 +14,3 @@ mod words;
 
 pub use fault::EarlyFault;
 pub use read::early_design;
-
-#[cfg(test)]
-mod tests;

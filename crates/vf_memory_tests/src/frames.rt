@@ -1,39 +1,49 @@
-use std::test::Fail;
+//! Walks of two holders of frames.
+
+use std::alloc::Global;
+use vf_base::Memory;
 use vf_frames::{Frames, PlainPool};
 
-// Two frames, and a second holder that takes part in one of them.
-#[test]
-fn frames_are_shared_and_counted(rt: HostRuntime) -> Result<(), Fail> {
-    let (mut pool, mut first) = PlainPool::new(rt.alloc(), 2)?;
+/// Two frames, and a second holder that takes part in one of them. Tells whether the first holder has the shared frame alone, before
+/// and after the second gave it back; whether the second gets the other frame, and one more; its misses; whether it gets the frame
+/// that the first gave back; the misses of the first, once it has joined the second; and whether it gets a frame.
+pub fn shared(alloc: Global) -> Result<String, Memory> {
+    let (mut pool, mut first) = PlainPool::new(alloc, 2)?;
     let mut second = pool.open(&mut first, 1)?;
-    let shared = pool.claim(&mut first).ok_or("a free frame")?;
+    let Some(shared) = pool.claim(&mut first) else {
+        return Ok(format!(in alloc; "no frame")?);
+    };
     pool.hold(&first, &mut second, shared);
-    assert!(rt; !pool.look(&mut first, shared));
+    let with_second = pool.look(&mut first, shared);
     pool.release(&mut second, shared);
-    assert!(rt; pool.look(&mut first, shared));
+    let alone = pool.look(&mut first, shared);
 
-    assert!(rt; pool.claim(&mut second).is_some());
-    assert!(rt; pool.claim(&mut second).is_none());
-    assert_eq!(rt; pool.misses(&second), 1);
+    let other = pool.claim(&mut second).is_some();
+    let more = pool.claim(&mut second).is_some();
+    let misses = pool.misses(&second);
 
     pool.release(&mut first, shared);
-    assert_eq!(rt; pool.claim(&mut second), Some(shared));
+    let same = pool.claim(&mut second) == Some(shared);
     pool.join(&mut first, second);
-    assert_eq!(rt; pool.misses(&first), 1);
-    assert!(rt; pool.claim(&mut first).is_none());
-    Ok(())
+    let joined = pool.misses(&first);
+    let last = pool.claim(&mut first).is_some();
+    Ok(format!(in alloc; "{with_second} {alone} {other} {more} {misses} {same} {joined} {last}")?)
 }
 
-// A holder that gave its frame back leaves the other's frame as it was, and its own frame free.
-#[test]
-fn a_holder_without_frames_is_joined(rt: HostRuntime) -> Result<(), Fail> {
-    let (mut pool, mut hand) = PlainPool::new(rt.alloc(), 200)?;
-    let own = pool.claim(&mut hand).ok_or("a free frame")?;
+/// A holder that gave its frame back is joined. Tells whether the hand still has its own frame alone, and whether it gets the frame
+/// that was given back.
+pub fn joined(alloc: Global) -> Result<String, Memory> {
+    let (mut pool, mut hand) = PlainPool::new(alloc, 200)?;
+    let Some(own) = pool.claim(&mut hand) else {
+        return Ok(format!(in alloc; "no frame")?);
+    };
     let mut other = pool.open(&mut hand, 1)?;
-    let given = pool.claim(&mut other).ok_or("a free frame")?;
+    let Some(given) = pool.claim(&mut other) else {
+        return Ok(format!(in alloc; "no frame")?);
+    };
     pool.release(&mut other, given);
     pool.join(&mut hand, other);
-    assert!(rt; pool.look(&mut hand, own));
-    assert_eq!(rt; pool.claim(&mut hand), Some(given));
-    Ok(())
+    let alone = pool.look(&mut hand, own);
+    let same = pool.claim(&mut hand) == Some(given);
+    Ok(format!(in alloc; "{alone} {same}")?)
 }
