@@ -1,0 +1,4 @@
+mod PutLemmas
+mod ValueLemmas
+mod Parts
+mod Holding

@@ -1,0 +1,16 @@
+-- The laws of the words of a state. Each is the contract of a function of `laws`.
+use Rattle.std.specs.Prelude.{◌≡◌, Bool, length}
+use Rattle.std.specs.List.{AllZip}
+use Rattle.vf_elaborated.specs.Elaborated.{Elaborated}
+use Rattle.vf_elaborated.specs.Layout.{scene_at, HoldsValues}
+use Rattle.vf_elaborated.specs.Shapes.{FitsSignal}
+use Rattle.vf_scheduler.specs.State.{State, scene_of}
+use Rattle.vf_scheduler.specs.Words.{words_of}
+
+-- the words hold the values, and an expression may look at the same in both
+pub record Holds (d : Elaborated) (s : State) : Type 0 where
+  pub values : HoldsValues d (words_of d s)
+  pub scenes : (past_end : Bool) → scene_at d past_end (words_of d s) ≡ scene_of past_end s
+
+abbrev pub WordsHoldTheValues : Type 0
+WordsHoldTheValues = (d : Elaborated) (s : State) → length s.threads ≡ length d.processes → AllZip FitsSignal d.signals s.values → Holds d s

@@ -1,0 +1,3 @@
+pub mod Puts
+pub mod Addresses
+pub mod Laws
