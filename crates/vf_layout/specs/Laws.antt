@@ -6,6 +6,8 @@ use Rattle.vf_elaborated.specs.Layout.{scene_at, HoldsValues}
 use Rattle.vf_elaborated.specs.Shapes.{FitsSignal}
 use Rattle.vf_scheduler.specs.State.{State, scene_of}
 use Rattle.vf_scheduler.specs.Words.{words_of}
+use Rattle.vf_layout.specs.Addresses.{HasShape}
+use Rattle.vf_layout.specs.Standing.{Stands}
 
 -- the words hold the values, and an expression may look at the same in both
 pub record Holds (d : Elaborated) (s : State) : Type 0 where
@@ -14,3 +16,7 @@ pub record Holds (d : Elaborated) (s : State) : Type 0 where
 
 abbrev pub WordsHoldTheValues : Type 0
 WordsHoldTheValues = (d : Elaborated) (s : State) → length s.threads ≡ length d.processes → AllZip FitsSignal d.signals s.values → Holds d s
+
+-- each word stands at its address
+abbrev pub WordsStand : Type 0
+WordsStand = (d : Elaborated) (s : State) → HasShape d s → Stands d s (words_of d s)

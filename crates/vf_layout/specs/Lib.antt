@@ -1,3 +1,4 @@
 pub mod Puts
 pub mod Addresses
+pub mod Standing
 pub mod Laws
