@@ -6,3 +6,4 @@ mod Blocks
 mod Image
 mod ValueImage
 mod StandingLemmas
+mod ChangeLemmas

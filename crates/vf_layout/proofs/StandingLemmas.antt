@@ -121,7 +121,7 @@ module _ (d : Elaborated) (s : State) (shape : HasShape d s) where
       ∙ thread_changed d (front_words d s) refl s shape (link_of d s) (link_of d s) p (thread_of s p) 0 (thread_words (link_of d s) (p, thread_of s p)) below
       (λ m other. refl) refl (omega arith)
 
-  thread_stands : (p : ℕ) → p < length d.processes → ThreadStands d s (words_of d s) p
+  pub thread_stands : (p : ℕ) → p < length d.processes → ThreadStands d s (words_of d s) p
   thread_stands p below =
       let inside = thread_inside d s p shape below in
       let all = stands_by (words_of d s) (thread_words (link_of d s) (p, thread_of s p)) (thread_at p + 0) (thread_same p below) (omega (arith, inside, long)) in

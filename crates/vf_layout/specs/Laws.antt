@@ -8,6 +8,7 @@ use Rattle.vf_scheduler.specs.State.{State, scene_of}
 use Rattle.vf_scheduler.specs.Words.{words_of}
 use Rattle.vf_layout.specs.Addresses.{HasShape}
 use Rattle.vf_layout.specs.Standing.{Stands}
+use Rattle.vf_layout.specs.Changes.{FrontChanges, Changes}
 
 -- the words hold the values, and an expression may look at the same in both
 pub record Holds (d : Elaborated) (s : State) : Type 0 where
@@ -20,3 +21,11 @@ WordsHoldTheValues = (d : Elaborated) (s : State) → length s.threads ≡ lengt
 -- each word stands at its address
 abbrev pub WordsStand : Type 0
 WordsStand = (d : Elaborated) (s : State) → HasShape d s → Stands d s (words_of d s)
+
+-- a word of the front that changes is written
+abbrev pub FrontIsWritten : Type 0
+FrontIsWritten = (d : Elaborated) (s : State) → FrontChanges d s
+
+-- a process, a value, a driver or a slot that changes is written over its old words
+abbrev pub ChangesAreWritten : Type 0
+ChangesAreWritten = (d : Elaborated) (s : State) → HasShape d s → Changes d s
