@@ -4,4 +4,4 @@ pub use Rattle.vf_elaborated.proofs.NodeLemmas.{told_is_fold, told_by_node}
 pub use Rattle.vf_elaborated.proofs.Shaped.{told_roll, values_shaped}
 pub use Rattle.vf_elaborated.proofs.OperatorShapes.{zip_length, chosen_length, digits_length}
 -- where the elements of signals stand among the words, and what is read there
-pub use Rattle.vf_elaborated.proofs.LayoutLemmas.{values_fit, there, end_grows, address_ends, drivers_small, address_read}
+pub use Rattle.vf_elaborated.proofs.LayoutLemmas.{values_fit, places_length, there, end_grows, address_ends, drivers_small, address_read}

@@ -1,0 +1,9 @@
+mod PutLemmas
+mod ValueLemmas
+mod Parts
+mod Holding
+mod Blocks
+mod Image
+mod ValueImage
+mod StandingLemmas
+mod ChangeLemmas

@@ -1,0 +1,5 @@
+pub mod Puts
+pub mod Addresses
+pub mod Standing
+pub mod Changes
+pub mod Laws
