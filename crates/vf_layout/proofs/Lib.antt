@@ -7,3 +7,9 @@ mod Image
 mod ValueImage
 mod StandingLemmas
 mod ChangeLemmas
+mod Chained
+mod Linked
+mod Counts
+mod Lists
+mod Queueing
+mod FutureLemmas
