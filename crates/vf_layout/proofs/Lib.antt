@@ -13,3 +13,4 @@ mod Counts
 mod Lists
 mod Queueing
 mod FutureLemmas
+mod SoundLemmas

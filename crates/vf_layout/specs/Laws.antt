@@ -5,6 +5,7 @@ use Rattle.vf_elaborated.specs.Elaborated.{Elaborated}
 use Rattle.vf_elaborated.specs.Layout.{scene_at, HoldsValues}
 use Rattle.vf_elaborated.specs.Shapes.{FitsSignal}
 use Rattle.vf_scheduler.specs.State.{State, scene_of}
+use Rattle.vf_scheduler.specs.Sound.{IsSound}
 use Rattle.vf_scheduler.specs.Words.{words_of}
 use Rattle.vf_layout.specs.Addresses.{HasShape}
 use Rattle.vf_layout.specs.Standing.{Stands}
@@ -38,3 +39,11 @@ RegionsAreWritten = (d : Elaborated) (s : State) → HasShape d s → IsQueued d
 -- a list that becomes the active one writes the ends of both, in any state
 abbrev pub RegionsMove : Type 0
 RegionsMove = (d : Elaborated) (s : State) → s.active ≡ [] → RegionMoves d s
+
+-- a state has what the laws above ask for
+pub record IsWritten (d : Elaborated) (s : State) : Type 0 where
+  pub shape : HasShape d s
+  pub queued : IsQueued d s
+
+abbrev pub SoundIsWritten : Type 0
+SoundIsWritten = (d : Elaborated) (s : State) → IsSound d s → IsWritten d s

@@ -1,6 +1,6 @@
 //! The laws of the words of a state, each the contract of a function that does nothing.
 
-ghost use Rattle.vf_layout.specs.Laws.{WordsHoldTheValues, WordsStand, FrontIsWritten, ChangesAreWritten, RegionsAreWritten, RegionsMove};
+ghost use Rattle.vf_layout.specs.Laws.{WordsHoldTheValues, WordsStand, FrontIsWritten, ChangesAreWritten, RegionsAreWritten, RegionsMove, SoundIsWritten};
 
 /// Where a state has as many processes as the design, and its values fit the signals, its words hold these values: an expression
 /// reads in the words what it reads in the state.
@@ -34,4 +34,9 @@ pub fn regions_are_written()
 /// two lists are written and no link, in any state.
 pub fn regions_move()
     ensures { RegionsMove }
+{}
+
+/// A sound state has what its design names, no event stands twice in its lists, and each event there has a link.
+pub fn sound_is_written()
+    ensures { SoundIsWritten }
 {}
