@@ -82,10 +82,13 @@ module _ (d : Elaborated) (s : State) (queued : IsQueued d s) where
   pub at_most_once : (n : ℕ) → total n lists ≤ 1
   at_most_once n = let all = total_is n in let most = queued.once (item_at (length d.processes) n) in omega (arith, all, most)
 
--- an event that has a link is the one with its number
-pub item_again : (d : Elaborated) (s : State) (item : Item) → HasLink d s item → item_at (length d.processes) (number d item) ≡ item
-item_again d s (of_process p) has = ap (λ b. if b then of_process p else of_slot (p - length d.processes)) (lt-ltb p (length d.processes) has)
-item_again d s (of_slot q) has =
+-- a slot is the one with its number, and so is an event that has a link
+pub slot_again : (d : Elaborated) (q : ℕ) → item_at (length d.processes) (length d.processes + q) ≡ of_slot q
+slot_again d q =
     let n = length d.processes + q in
     let back : n - length d.processes ≡ q = omega arith in
     ap (λ b. if b then of_process n else of_slot (n - length d.processes)) (le-ltb n (length d.processes) (omega arith)) ∙ ap of_slot back
+
+pub item_again : (d : Elaborated) (s : State) (item : Item) → HasLink d s item → item_at (length d.processes) (number d item) ≡ item
+item_again d s (of_process p) has = ap (λ b. if b then of_process p else of_slot (p - length d.processes)) (lt-ltb p (length d.processes) has)
+item_again d s (of_slot q) has = slot_again d q

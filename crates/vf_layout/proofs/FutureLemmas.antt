@@ -12,7 +12,7 @@ use Rattle.vf_layout.specs.Laws.{RegionsAreWritten, RegionsMove}
 use Rattle.vf_layout.proofs.Image.{image}
 use Rattle.vf_layout.proofs.Linked.{reset, is_reset, reset_here, reset_other, relinked, link_read}
 use Rattle.vf_layout.proofs.Chained.{count_in, count-append, not_first, next_here, next_other, put_other, put_own, among_only, among_same}
-use Rattle.vf_layout.proofs.Lists.{numbers-append, earlier, later, front_with, links_with, front_long, words_with, words_by, total_parted, nowhere}
+use Rattle.vf_layout.proofs.Lists.{numbers-append, earlier, later, front_with, links_with, front_long, words_with, words_by, total_parted, nowhere, unlinked}
 use Rattle.vf_layout.proofs.Queueing.{alone, there, next_is, follows, joins, takes}
 
 module _ (d : Elaborated) (s : State) (shape : HasShape d s) (queued : IsQueued d s) where
@@ -91,6 +91,7 @@ module _ (d : Elaborated) (s : State) (shape : HasShape d s) (queued : IsQueued 
 pub regions_written : RegionsAreWritten
 regions_written d s shape queued = record {
   follows = follows d s shape queued;
+  unlinked = unlinked d s queued;
   joins = joins d s shape queued;
   takes = takes d s shape queued;
   first = first d s shape queued;

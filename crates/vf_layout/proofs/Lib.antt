@@ -14,3 +14,4 @@ mod Lists
 mod Queueing
 mod FutureLemmas
 mod SoundLemmas
+pub mod CallerLemmas

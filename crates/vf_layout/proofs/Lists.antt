@@ -3,15 +3,15 @@ use Rattle.std.proofs.Common.{◌≡◌, ◌≢◌, ℕ, ◌+◌, ◌<◌, ◌�
 use Rattle.std.proofs.lemmas.Bool.{false≢true}
 use Rattle.std.proofs.lemmas.List.{map-append}
 use Rattle.vf_elaborated.specs.Elaborated.{Elaborated}
-use Rattle.vf_scheduler.specs.State.{State, Item}
+use Rattle.vf_scheduler.specs.State.{State, Item, of_slot}
 use Rattle.vf_scheduler.specs.Sound.{times, events}
-use Rattle.vf_scheduler.specs.Words.{item_number, link, head, tail, next_among, numbers, front_words, words_of}
+use Rattle.vf_scheduler.specs.Words.{item_number, link, head, tail, next_among, numbers, link_of, front_words, words_of}
 use Rattle.vf_scheduler.proofs.CallerLemmas.{times-append, times_here}
 use Rattle.vf_layout.specs.Addresses.{HasShape}
 use Rattle.vf_layout.specs.Regions.{Region, ActiveRegion, InactiveRegion, NonblockingRegion, FutureRegion, StrobeRegion, list_in, with_list, head_at, has_tail, HasLink, number, IsQueued}
 use Rattle.vf_layout.proofs.Image.{image}
-use Rattle.vf_layout.proofs.Chained.{count_in, total, total-append}
-use Rattle.vf_layout.proofs.Counts.{lists, parts, total_is, at_most_once, item_again}
+use Rattle.vf_layout.proofs.Chained.{count_in, total, total-append, none_among}
+use Rattle.vf_layout.proofs.Counts.{lists, parts, total_is, at_most_once, slot_again, item_again}
 
 -- ---- the last event of a list
 
@@ -164,3 +164,9 @@ module _ (d : Elaborated) (s : State) (queued : IsQueued d s) where
   -- one that stands nowhere has a number that stands nowhere
   pub nowhere : (item : Item) → HasLink d s item → times item (events s) ≡ 0 → total (number d item) (lists d s queued) ≡ 0
   nowhere item has none = total_is d s queued (number d item) ∙ ap (λ item. times item (events s)) (item_again d s item has) ∙ none
+
+  -- a slot that stands nowhere has no link
+  pub unlinked : (q : ℕ) → times (of_slot q) (events s) ≡ 0 → link_of d s (length d.processes + q) ≡ 0
+  unlinked q none =
+      let n = length d.processes + q in
+      ap link (none_among n (lists d s queued) (total_is d s queued n ∙ ap (λ item. times item (events s)) (slot_again d q) ∙ none))

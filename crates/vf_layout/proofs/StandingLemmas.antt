@@ -141,7 +141,7 @@ module _ (d : Elaborated) (s : State) (shape : HasShape d s) where
       ∙ slot_changed d (front_words d s) refl s shape (link_of d s) (link_of d s) q (slot_of s q) 0 own below (λ m other. refl) (sym (put_all_over own own refl))
       (omega (arith, slot_length (has_wide d) (link_of d s) (length d.processes + q) (slot_of s q)))
 
-  slot_stands : (q : ℕ) → q < d.slots → StandsAt (words_of d s) (slot_at d q) (slot_words (has_wide d) (link_of d s) (length d.processes + q, slot_of s q))
+  pub slot_stands : (q : ℕ) → q < d.slots → StandsAt (words_of d s) (slot_at d q) (slot_words (has_wide d) (link_of d s) (length d.processes + q, slot_of s q))
   slot_stands q below =
       let own = slot_words (has_wide d) (link_of d s) (length d.processes + q, slot_of s q) in
       let here : slot_at d q + 0 ≡ slot_at d q = omega arith in

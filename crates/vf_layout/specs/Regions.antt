@@ -5,7 +5,7 @@ use Rattle.vf_elaborated.specs.Elaborated.{Elaborated}
 use Rattle.vf_scheduler.specs.State.{State, Item, of_process, of_slot}
 use Rattle.vf_scheduler.specs.Posting.{is_free}
 use Rattle.vf_scheduler.specs.Sound.{times, events, slot_of}
-use Rattle.vf_scheduler.specs.Words.{item_number, link, head, numbers, words_of}
+use Rattle.vf_scheduler.specs.Words.{item_number, link, head, numbers, link_of, words_of}
 use Rattle.vf_layout.specs.Addresses.{ACTIVE, INACTIVE, NONBLOCKING, FUTURE, STROBES, link_at, HasShape}
 
 -- ---- the lists
@@ -56,7 +56,8 @@ HasLink d s (of_slot q) = (q < d.slots) × (is_free (slot_of s q) ≡ false)
 abbrev pub number : Elaborated → Item → ℕ
 number d item = item_number (length d.processes) item
 
--- No event stands twice in the lists, and each has a link. A sound state is such a one, and each state in the middle of a turn.
+-- No event stands twice in the lists, and each has a link. No more of soundness is asked for, since a state in the middle of a turn need not be
+-- sound.
 pub record IsQueued (d : Elaborated) (s : State) : Type 0 where
   pub once : (item : Item) → times item (events s) ≤ 1
   pub linked : (item : Item) → 1 ≤ times item (events s) → HasLink d s item
@@ -96,6 +97,8 @@ pub record RegionChanges (d : Elaborated) (s : State) : Type 0 where
   -- the link of an event in a list leads to the next one
   pub follows : (r : Region) (before : List Item) (item : Item) (rest : List Item) → list_in r s ≡ before ++ item ∷ rest
       → slice_index (words_of d s) (link_at d (number d item)) ≡ link (head (numbers d s rest))
+  -- the link of a slot that stands in no list is 0
+  pub unlinked : (q : ℕ) → times (of_slot q) (events s) ≡ 0 → link_of d s (length d.processes + q) ≡ 0
   -- an event joins the end of a region's list
   pub joins : (r : Region) (item : Item) → has_tail r ≡ true
       → words_of d (with_list r (list_in r s ++ item ∷ []) s) ≡ joined d (head_at r) (number d item) (words_of d s)
