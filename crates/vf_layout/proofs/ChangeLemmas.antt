@@ -1,16 +1,14 @@
 -- What a change of one part of a state writes into its words.
-use Rattle.std.proofs.Common.{◌≡◌, ℕ, suc, ◌+◌, ◌<◌, ◌≤◌, Bool, true, false, if◌then◌else◌, List, [], ◌∷◌, length, map, refl, sym, ◌∙◌, ap, arith, slice_index, slice_index_or, slice_set}
+use Rattle.std.proofs.Common.{◌≡◌, ℕ, suc, ◌+◌, ◌<◌, ◌≤◌, Bool, true, false, if◌then◌else◌, List, [], ◌∷◌, length, refl, sym, ◌∙◌, ap, arith, slice_index, slice_index_or, slice_set}
 use Rattle.std.proofs.lemmas.List.{set-get_or, get_or-set_other, length-map, get_or-map}
-use Rattle.vf_fours.specs.declared.Bit.{Bit}
 use Rattle.vf_elaborated.specs.Elaborated.{Elaborated}
-use Rattle.vf_scheduler.specs.State.{State, Thread, thread_of, put_thread, Update, Slot, Later, Due}
-use Rattle.vf_scheduler.specs.Driving.{driver_widths}
+use Rattle.vf_scheduler.specs.State.{State, Thread, thread_of, put_thread, Update, Later, Due}
 use Rattle.vf_scheduler.specs.Posting.{put_slot, time_in}
 use Rattle.vf_scheduler.specs.Sound.{slot_of}
 use Rattle.vf_scheduler.specs.Words.{front_words, status_word, thread_words, slot_words, has_wide, link_of, words_of}
-use Rattle.vf_layout.specs.Addresses.{thread_at, driver_at, slot_at, HasShape}
+use Rattle.vf_layout.specs.Addresses.{thread_at, slot_at, HasShape}
 use Rattle.vf_layout.specs.Puts.{put_all}
-use Rattle.vf_layout.specs.Changes.{FrontChanges, written_thread, ThreadChanges, ValueChanges, DriverChanges, SlotChanges, UpdateComes, Changes}
+use Rattle.vf_layout.specs.Changes.{ThreadChanges, ValueChanges, DriverChanges, SlotChanges, UpdateComes}
 use Rattle.vf_layout.specs.Laws.{FrontIsWritten, ChangesAreWritten}
 use Rattle.vf_layout.proofs.PutLemmas.{put_all_over}
 use Rattle.vf_layout.proofs.Image.{slot_length, thread_changed, slot_changed}

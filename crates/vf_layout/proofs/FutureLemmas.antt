@@ -1,19 +1,18 @@
 -- What the words of a state become when an event is put into the future, and when a list becomes the active one.
-use Rattle.std.proofs.Common.{◌≡◌, ◌≢◌, ℕ, ◌+◌, List, [], ◌∷◌, ◌++◌, Some, None, refl, sym, ◌∙◌, ap, ap₂, arith, ⊎_elim, slice_index, slice_set}
-use Rattle.std.proofs.Math.Path.{fun_ext}
+use Rattle.std.proofs.Common.{◌≡◌, ◌≢◌, ℕ, ◌+◌, List, [], ◌∷◌, ◌++◌, refl, sym, ◌∙◌, ap, ap₂, arith, ⊎_elim, slice_index, slice_set}
 use Rattle.std.proofs.lemmas.Bool.{cases_eq}
 use Rattle.vf_elaborated.specs.Elaborated.{Elaborated}
 use Rattle.vf_scheduler.specs.State.{State, Item}
 use Rattle.vf_scheduler.specs.Sound.{times, events}
 use Rattle.vf_scheduler.specs.Words.{link, head, next_in, numbers, words_of}
 use Rattle.vf_layout.specs.Addresses.{FUTURE, INACTIVE, NONBLOCKING, link_at, HasShape}
-use Rattle.vf_layout.specs.Regions.{FutureRegion, HasLink, number, IsQueued, put_first, put_after, moved, RegionChanges}
+use Rattle.vf_layout.specs.Regions.{FutureRegion, HasLink, number, IsQueued, put_first, put_after, moved}
 use Rattle.vf_layout.specs.Laws.{RegionsAreWritten, RegionsMove}
 use Rattle.vf_layout.proofs.Image.{image}
-use Rattle.vf_layout.proofs.Linked.{reset, is_reset, reset_here, reset_other, relinked, link_read}
+use Rattle.vf_layout.proofs.Linked.{reset, is_reset, reset_here, reset_other, relinked}
 use Rattle.vf_layout.proofs.Chained.{count_in, count-append, not_first, next_here, next_other, put_other, put_own, among_only, among_same}
 use Rattle.vf_layout.proofs.Lists.{numbers-append, earlier, later, front_with, links_with, front_long, words_with, words_by, total_parted, nowhere, unlinked}
-use Rattle.vf_layout.proofs.Queueing.{alone, there, next_is, follows, joins, takes}
+use Rattle.vf_layout.proofs.Queueing.{alone, there, follows, joins, takes}
 
 module _ (d : Elaborated) (s : State) (shape : HasShape d s) (queued : IsQueued d s) where
   first : (item : Item) → HasLink d s item → times item (events s) ≡ 0 → words_of d (record s { future = item ∷ s.future }) ≡ put_first d (number d item) (words_of d s)

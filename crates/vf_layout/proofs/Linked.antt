@@ -1,14 +1,14 @@
 -- The link of one event in the words of a state.
-use Rattle.std.proofs.Common.{◌≡◌, ◌≢◌, ℕ, suc, ◌+◌, ◌-◌, ◌<◌, ◌≤◌, Bool, true, false, List, [], ◌∷◌, length, refl, sym, ◌∙◌, ap, subst, arith, ⊎_elim, ◌==◌, if◌then◌else◌, nat_lt, slice_index, slice_set}
+use Rattle.std.proofs.Common.{◌≡◌, ◌≢◌, ℕ, ◌+◌, ◌-◌, ◌<◌, ◌≤◌, Bool, true, false, List, [], ◌∷◌, length, refl, sym, ◌∙◌, ap, arith, ⊎_elim, ◌==◌, if◌then◌else◌, slice_index, slice_set}
 use Rattle.std.proofs.Math.Path.{fun_ext}
 use Rattle.std.proofs.lemmas.Bool.{false≢true, eq-eqb, ne_eqb, cases_eq, lt-ltb, le-ltb}
 use Rattle.std.proofs.lemmas.List.{set-get_or, get_or-set_same}
 use Rattle.vf_elaborated.specs.Elaborated.{Elaborated}
-use Rattle.vf_scheduler.specs.State.{State, Thread, no_thread, thread_of, Slot, Free, Later, Due, Strobed, Item, of_process, of_slot}
+use Rattle.vf_scheduler.specs.State.{State, no_thread, thread_of, Slot, Free, Later, Due, Strobed, Item, of_process, of_slot}
 use Rattle.vf_scheduler.specs.Posting.{is_free, time_in}
 use Rattle.vf_scheduler.specs.Sound.{slot_of}
-use Rattle.vf_scheduler.specs.Words.{status_word, thread_words, update_words, slot_words, has_wide}
-use Rattle.vf_layout.specs.Addresses.{thread_at, slot_at, slot_size, link_at, word_count, HasShape}
+use Rattle.vf_scheduler.specs.Words.{status_word, update_words, slot_words, has_wide}
+use Rattle.vf_layout.specs.Addresses.{thread_at, slot_at, link_at, word_count, HasShape}
 use Rattle.vf_layout.specs.Puts.{put_all}
 use Rattle.vf_layout.specs.Regions.{HasLink, number}
 use Rattle.vf_layout.proofs.Image.{image, thread_changed, slot_changed}

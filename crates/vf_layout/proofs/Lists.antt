@@ -1,17 +1,15 @@
 -- The words of a state with another list of events in one region.
-use Rattle.std.proofs.Common.{◌≡◌, ◌≢◌, ℕ, ◌+◌, ◌<◌, ◌≤◌, Bool, true, false, List, [], ◌∷◌, ◌++◌, length, map, Some, None, refl, sym, ◌∙◌, ap, arith, slice_index, slice_set}
+use Rattle.std.proofs.Common.{◌≡◌, ℕ, ◌+◌, ◌≤◌, true, List, [], ◌∷◌, ◌++◌, length, Some, refl, sym, ◌∙◌, ap, arith, slice_index, slice_set}
 use Rattle.std.proofs.lemmas.Bool.{false≢true}
-use Rattle.std.proofs.lemmas.List.{map-append}
 use Rattle.vf_elaborated.specs.Elaborated.{Elaborated}
 use Rattle.vf_scheduler.specs.State.{State, Item, of_slot}
 use Rattle.vf_scheduler.specs.Sound.{times, events}
-use Rattle.vf_scheduler.specs.Words.{item_number, link, head, tail, next_among, numbers, link_of, front_words, words_of}
-use Rattle.vf_scheduler.proofs.CallerLemmas.{times-append, times_here}
-use Rattle.vf_layout.specs.Addresses.{HasShape}
+use Rattle.vf_scheduler.specs.Words.{link, head, tail, next_among, numbers, link_of, front_words, words_of}
+use Rattle.vf_scheduler.proofs.CallerLemmas.{times_here}
 use Rattle.vf_layout.specs.Regions.{Region, ActiveRegion, InactiveRegion, NonblockingRegion, FutureRegion, StrobeRegion, list_in, with_list, head_at, has_tail, HasLink, number, IsQueued}
 use Rattle.vf_layout.proofs.Image.{image}
 use Rattle.vf_layout.proofs.Chained.{count_in, total, total-append, none_among}
-use Rattle.vf_layout.proofs.Counts.{lists, parts, total_is, at_most_once, slot_again, item_again}
+use Rattle.vf_layout.proofs.Counts.{lists, parts, total_is, slot_again, item_again}
 
 -- ---- the last event of a list
 

@@ -1,20 +1,19 @@
 -- What the words of a state become when an event joins a list or is taken from one.
-use Rattle.std.proofs.Common.{◌≡◌, ◌≢◌, ℕ, ◌+◌, ◌-◌, ◌<◌, ◌≤◌, Bool, true, false, ◌&&◌, List, [], ◌∷◌, ◌++◌, length, Option, Some, None, refl, sym, ◌∙◌, ap, ap₂, arith, ⊎_elim, ◌==◌, if◌then◌else◌, slice_index, slice_set}
+use Rattle.std.proofs.Common.{◌≡◌, ◌≢◌, ℕ, ◌+◌, ◌-◌, Bool, true, false, ◌&&◌, List, [], ◌∷◌, ◌++◌, refl, sym, ◌∙◌, ap, arith, ◌==◌, if◌then◌else◌, slice_index, slice_set}
 use Rattle.std.proofs.Math.Path.{fun_ext}
-use Rattle.std.proofs.lemmas.Bool.{false≢true, eq-eqb, ne_eqb, cases_eq}
+use Rattle.std.proofs.lemmas.Bool.{false≢true, ne_eqb}
 use Rattle.std.proofs.lemmas.Option.{same_Some}
 use Rattle.vf_elaborated.specs.Elaborated.{Elaborated}
 use Rattle.vf_scheduler.specs.State.{State, Item}
-use Rattle.vf_scheduler.specs.Sound.{times, events}
 use Rattle.vf_scheduler.specs.Words.{link, head, tail, next_in, numbers, words_of}
 use Rattle.vf_scheduler.proofs.CallerLemmas.{times-append, times_here}
 use Rattle.vf_layout.specs.Addresses.{link_at, HasShape}
 use Rattle.vf_layout.specs.Regions.{Region, ActiveRegion, InactiveRegion, NonblockingRegion, FutureRegion, StrobeRegion, list_in, with_list, head_at, has_tail, HasLink, number, IsQueued, joined, taken}
 use Rattle.vf_layout.proofs.Image.{image}
-use Rattle.vf_layout.proofs.Linked.{reset, is_reset, relinked, link_read}
-use Rattle.vf_layout.proofs.Counts.{lists, at_most_once}
+use Rattle.vf_layout.proofs.Linked.{is_reset, relinked, link_read}
+use Rattle.vf_layout.proofs.Counts.{at_most_once}
 use Rattle.vf_layout.proofs.Chained.{count_in, total, count-append, count_here, next_here, next_other, no_next, none_in, tail_counted, join_other, join_last, tail_joined, among_only, among_same}
-use Rattle.vf_layout.proofs.Lists.{last_item, last_counted, tail_last, numbers-append, earlier, later, front_with, links_with, front_long, words_with, words_by, head_read, tail_read, front_one, front_tail, front_none, front_rest, total_parted, has_link, nowhere}
+use Rattle.vf_layout.proofs.Lists.{last_item, last_counted, tail_last, numbers-append, earlier, later, front_with, links_with, front_long, words_with, words_by, head_read, tail_read, front_one, front_tail, front_none, front_rest, total_parted, has_link}
 
 -- ---- writes, by what the ends are
 

@@ -1,5 +1,5 @@
 -- A sound state has what the laws of words ask for.
-use Rattle.std.proofs.Common.{◌≡◌, ℕ, ◌+◌, ◌<◌, ◌≤◌, Bool, true, false, List, length, refl, sym, ◌∙◌, ap, subst, arith, ⊎_elim, slice_index_or}
+use Rattle.std.proofs.Common.{◌≡◌, ◌<◌, ◌≤◌, false, length, refl, ap, arith, ⊎_elim}
 use Rattle.std.proofs.lemmas.Bool.{cases_lt}
 use Rattle.std.proofs.lemmas.List.{get_or_past}
 use Rattle.std.proofs.lemmas.Slice.Zip.{AllZip-long}
@@ -9,7 +9,7 @@ use Rattle.vf_scheduler.specs.State.{State, Status, Halted, Waiting, Active, Ina
 use Rattle.vf_scheduler.specs.Posting.{is_free}
 use Rattle.vf_scheduler.specs.Sound.{times, events, listed, slot_listed, slot_of, IsSound}
 use Rattle.vf_layout.specs.Addresses.{HasShape}
-use Rattle.vf_layout.specs.Regions.{HasLink, IsQueued}
+use Rattle.vf_layout.specs.Regions.{HasLink}
 use Rattle.vf_layout.specs.Laws.{SoundIsWritten}
 
 few : (status : Status) → listed status ≤ 1

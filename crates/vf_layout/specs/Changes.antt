@@ -8,7 +8,7 @@ use Rattle.vf_scheduler.specs.Driving.{driver_widths}
 use Rattle.vf_scheduler.specs.Posting.{put_slot, time_in}
 use Rattle.vf_scheduler.specs.Sound.{slot_of}
 use Rattle.vf_scheduler.specs.Words.{link, flag, status_word, is_wide, value_words, slot_words, has_wide, link_of, words_of}
-use Rattle.vf_layout.specs.Addresses.{TIME, RUNNING, MONITOR, DUE, thread_at, driver_at, slot_at, HasShape}
+use Rattle.vf_layout.specs.Addresses.{TIME, RUNNING, MONITOR, DUE, thread_at, driver_at, slot_at}
 use Rattle.vf_layout.specs.Puts.{put_all}
 
 -- ---- the front

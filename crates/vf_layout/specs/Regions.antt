@@ -6,7 +6,7 @@ use Rattle.vf_scheduler.specs.State.{State, Item, of_process, of_slot}
 use Rattle.vf_scheduler.specs.Posting.{is_free}
 use Rattle.vf_scheduler.specs.Sound.{times, events, slot_of}
 use Rattle.vf_scheduler.specs.Words.{item_number, link, head, numbers, link_of, words_of}
-use Rattle.vf_layout.specs.Addresses.{ACTIVE, INACTIVE, NONBLOCKING, FUTURE, STROBES, link_at, HasShape}
+use Rattle.vf_layout.specs.Addresses.{ACTIVE, INACTIVE, NONBLOCKING, FUTURE, STROBES, link_at}
 
 -- ---- the lists
 
