@@ -1,21 +1,19 @@
 -- What a change of one part of a state writes into its words.
-use Rattle.std.proofs.Common.{◌≡◌, ℕ, suc, ◌+◌, ◌<◌, List, [], ◌∷◌, length, map, refl, sym, ◌∙◌, ap, arith, slice_index, slice_index_or, slice_set}
+use Rattle.std.proofs.Common.{◌≡◌, ℕ, suc, ◌+◌, ◌<◌, ◌≤◌, Bool, true, false, if◌then◌else◌, List, [], ◌∷◌, length, refl, sym, ◌∙◌, ap, arith, slice_index, slice_index_or, slice_set}
 use Rattle.std.proofs.lemmas.List.{set-get_or, get_or-set_other, length-map, get_or-map}
-use Rattle.vf_fours.specs.declared.Bit.{Bit}
 use Rattle.vf_elaborated.specs.Elaborated.{Elaborated}
-use Rattle.vf_scheduler.specs.State.{State, Thread, thread_of, put_thread, Slot}
-use Rattle.vf_scheduler.specs.Driving.{driver_widths}
+use Rattle.vf_scheduler.specs.State.{State, Thread, thread_of, put_thread, Update, Later, Due}
 use Rattle.vf_scheduler.specs.Posting.{put_slot, time_in}
 use Rattle.vf_scheduler.specs.Sound.{slot_of}
 use Rattle.vf_scheduler.specs.Words.{front_words, status_word, thread_words, slot_words, has_wide, link_of, words_of}
-use Rattle.vf_layout.specs.Addresses.{thread_at, driver_at, slot_at, HasShape}
+use Rattle.vf_layout.specs.Addresses.{thread_at, slot_at, HasShape}
 use Rattle.vf_layout.specs.Puts.{put_all}
-use Rattle.vf_layout.specs.Changes.{FrontChanges, written_thread, ThreadChanges, ValueChanges, DriverChanges, SlotChanges, Changes}
+use Rattle.vf_layout.specs.Changes.{ThreadChanges, ValueChanges, DriverChanges, SlotChanges, UpdateComes}
 use Rattle.vf_layout.specs.Laws.{FrontIsWritten, ChangesAreWritten}
 use Rattle.vf_layout.proofs.PutLemmas.{put_all_over}
 use Rattle.vf_layout.proofs.Image.{slot_length, thread_changed, slot_changed}
 use Rattle.vf_layout.proofs.ValueImage.{value_changed, driver_changed}
-use Rattle.vf_layout.proofs.StandingLemmas.{thread_stands}
+use Rattle.vf_layout.proofs.StandingLemmas.{thread_stands, slot_stands}
 
 pub front_written : FrontIsWritten
 unfolding words_of
@@ -36,6 +34,15 @@ third_stays words at a b c e is =
     ∙ ap (λ n. slice_set (slice_set first (at + 2) c) n e) three
     ∙ ap (λ l. slice_set (slice_set first (at + 2) l) (at + 3) e) (sym stays)
     ∙ ap (λ left. slice_set left (at + 3) e) (set-get_or first (at + 2) 0)
+
+second_stays : (words : List ℕ) (at a b c : ℕ) → slice_index words (at + 1) ≡ b → put_all at (a ∷ b ∷ c ∷ []) words ≡ slice_set (slice_set words at a) (at + 2) c
+second_stays words at a b c is =
+    let one : suc at ≡ at + 1 = omega arith in
+    let two : suc (suc at) ≡ at + 2 = omega arith in
+    let first = slice_set words at a in
+    let stays : slice_index first (at + 1) ≡ b = get_or-set_other words at (at + 1) a 0 (λ same. omega (arith, same)) ∙ is in
+    ap (λ n. slice_set (slice_set first n b) (suc (suc at)) c) one ∙ ap (λ n. slice_set (slice_set first (at + 1) b) n c) two
+    ∙ ap (λ l. slice_set (slice_set first (at + 1) l) (at + 2) c) (sym stays) ∙ ap (λ left. slice_set left (at + 2) c) (set-get_or first (at + 1) 0)
 
 module _ (d : Elaborated) (s : State) (shape : HasShape d s) where
   whole_thread : (p : ℕ) (thread : Thread) → p < length d.processes
@@ -84,10 +91,39 @@ module _ (d : Elaborated) (s : State) (shape : HasShape d s) where
   unfolding words_of
   value_changes sig element bits is wide = value_changed d (front_words d s) refl s shape (link_of d s) sig element bits is wide
 
+  three_words : (q at : ℕ) (u : Update) → q < d.slots → slot_of s q ≡ Later at u
+      → words_of d (put_slot q (Due u) s) ≡ put_all (slot_at d q + 0) (2 ∷ link_of d s (length d.processes + q) ∷ 0 ∷ []) (words_of d s)
+  unfolding words_of
+  three_words q at u below is =
+      let n = length d.processes + q in
+      let list : List ℕ = 2 ∷ link_of d s n ∷ 0 ∷ [] in
+      slot_changed d (front_words d s) refl s shape (link_of d s) (link_of d s) q (Due u) 0 list below (λ m other. refl)
+      (ap (λ slot. put_all 0 list (slot_words (has_wide d) (link_of d s) (n, slot))) (sym is)) (room (has_wide d))
+    where
+      room : (wide : Bool) → 0 + 3 ≤ (if wide then 10 else 8)
+      room true = omega arith
+      room false = omega arith
+
+  update_comes : UpdateComes d s
+  update_comes q at u below is =
+      let n = length d.processes + q in
+      let here : slot_at d q + 0 ≡ slot_at d q = omega arith in
+      let size = slot_length (has_wide d) (link_of d s) n (slot_of s q) in
+      let link_is : slice_index (words_of d s) (slot_at d q + 1) ≡ link_of d s n =
+      slot_stands d s shape q below 1 (some (has_wide d) size)
+      ∙ ap (λ slot. slice_index (slot_words (has_wide d) (link_of d s) (n, slot)) 1) is in
+      three_words q at u below is ∙ ap (λ at. put_all at (2 ∷ link_of d s n ∷ 0 ∷ []) (words_of d s)) here
+      ∙ second_stays (words_of d s) (slot_at d q) 2 (link_of d s n) 0 link_is
+    where
+      some : (wide : Bool) {long : ℕ} → long ≡ (if wide then 10 else 8) → 1 < long
+      some true is = omega (arith, is)
+      some false is = omega (arith, is)
+
 pub changes_written : ChangesAreWritten
 changes_written d s shape = record {
   threads = thread_changes d s shape;
   values = value_changes d s shape;
   drivers = driver_changes d s shape;
   slots = slot_changes d s shape;
+  comes = update_comes d s shape;
 }

@@ -10,7 +10,7 @@ use Rattle.vf_elaborated.specs.declared.design.Signal.{Signal}
 use Rattle.vf_elaborated.specs.Elaborated.{Elaborated}
 use Rattle.vf_elaborated.specs.Values.{Elements}
 use Rattle.vf_elaborated.specs.Shapes.{FitsSignal}
-use Rattle.vf_elaborated.specs.Layout.{value_size, signal_size, places_from, end_from, signals_begin, drivers_begin, places_of, width_in, count_in, width_at, IsElement, address_of, value_at, elements_at, values_at, HasValue}
+use Rattle.vf_elaborated.specs.Layout.{value_size, signal_size, places_from, signals_begin, drivers_begin, places_of, width_in, count_in, width_at, IsElement, address_of, elements_at, values_at}
 use Rattle.vf_elaborated.proofs.CallerLemmas.{there, places_length}
 use Rattle.vf_scheduler.specs.State.{State, bits_of}
 use Rattle.vf_scheduler.specs.Words.{front_words, link_of, element_words, used_words, words_of}

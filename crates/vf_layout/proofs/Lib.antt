@@ -7,3 +7,11 @@ mod Image
 mod ValueImage
 mod StandingLemmas
 mod ChangeLemmas
+mod Chained
+mod Linked
+mod Counts
+mod Lists
+mod Queueing
+mod FutureLemmas
+mod SoundLemmas
+pub mod CallerLemmas

@@ -1,6 +1,6 @@
 -- The parts of the words of a state: front, processes, values, drivers, slots, and how long each is.
-use Rattle.std.proofs.Common.{◌≡◌, ℕ, zero, suc, ◌+◌, ◌*◌, ◌-◌, ◌/◌, Bool, true, false, List, [], ◌∷◌, ◌++◌, length, refl, sym, ◌∙◌, ap, ap₂, arith, flat_map, if◌then◌else◌}
-use Rattle.std.proofs.lemmas.List.{append_assoc, length-append}
+use Rattle.std.proofs.Common.{◌≡◌, ℕ, suc, ◌+◌, ◌*◌, Bool, true, false, List, [], ◌∷◌, length, refl, ◌∙◌, ap, ap₂, arith, flat_map, if◌then◌else◌}
+use Rattle.std.proofs.lemmas.List.{length-append}
 use Rattle.std.proofs.lemmas.List.Elements.{All-head, All-tail}
 use Rattle.std.specs.List.{All, AllZip, enumerate_from}
 use Rattle.vf_fours.specs.declared.Bit.{Bit}
@@ -10,7 +10,7 @@ use Rattle.vf_elaborated.specs.Values.{Elements}
 use Rattle.vf_elaborated.specs.Shapes.{FitsSignal}
 use Rattle.vf_elaborated.specs.Layout.{value_size, signal_size, end_from}
 use Rattle.vf_scheduler.specs.State.{State, Thread}
-use Rattle.vf_scheduler.specs.Words.{is_wide, value_words, element_words, thread_words, slot_words, has_wide, link_of, front_words, used_words, filled, words_of}
+use Rattle.vf_scheduler.specs.Words.{is_wide, value_words, element_words, thread_words, slot_words, has_wide, link_of}
 
 -- the words of a value
 abbrev pub own_words : List Bit → List ℕ

@@ -1,20 +1,18 @@
 -- Each word of a state stands at its address.
-use Rattle.std.proofs.Common.{◌≡◌, ℕ, suc, ◌+◌, ◌-◌, ◌*◌, ◌/◌, ◌<◌, ◌≤◌, Bool, true, false, List, [], ◌∷◌, ◌++◌, length, map, take, replicate, Option, Some, None, refl, sym, ◌∙◌, ap, ap₂, subst, arith, flat_map, slice_get, slice_index, slice_index_or, slice_set, sum_by, if◌then◌else◌}
+use Rattle.std.proofs.Common.{◌≡◌, ℕ, ◌+◌, ◌-◌, ◌*◌, ◌/◌, ◌<◌, ◌≤◌, List, [], ◌++◌, length, take, replicate, refl, sym, ◌∙◌, ap, subst, arith, slice_index, slice_index_or, sum_by, if◌then◌else◌}
 use Rattle.std.proofs.lemmas.List.{length-append, length-replicate, length-map, set-get_or}
 use Rattle.vf_base.specs.declared.write.TheConstants.{PAGE_WORDS}
 use Rattle.vf_elaborated.specs.Elaborated.{Elaborated}
-use Rattle.vf_elaborated.specs.Layout.{value_size, signals_begin, drivers_begin}
+use Rattle.vf_elaborated.specs.Layout.{value_size, signals_begin}
 use Rattle.vf_scheduler.specs.State.{State, no_thread, thread_of, Free}
-use Rattle.vf_scheduler.specs.Driving.{driver_widths}
-use Rattle.vf_scheduler.specs.Posting.{put_slot, time_in}
 use Rattle.vf_scheduler.specs.Sound.{slot_of}
-use Rattle.vf_scheduler.specs.Words.{front_words, status_word, thread_words, slot_words, has_wide, filled, link_of, words_of}
+use Rattle.vf_scheduler.specs.Words.{front_words, thread_words, slot_words, has_wide, filled, link_of, words_of}
 use Rattle.vf_layout.specs.Puts.{put_all, StandsAt}
-use Rattle.vf_layout.specs.Addresses.{thread_at, driver_at, slot_at, slot_size, slots_begin, word_count, HasShape}
+use Rattle.vf_layout.specs.Addresses.{thread_at, driver_at, slot_at, slot_size, word_count, HasShape}
 use Rattle.vf_layout.specs.Standing.{FrontStands, ThreadStands, Stands}
 use Rattle.vf_layout.specs.Laws.{WordsStand}
 use Rattle.vf_layout.proofs.PutLemmas.{put_all_over, put_all_read}
-use Rattle.vf_layout.proofs.Parts.{own_words, own_length, values_length, threads_length}
+use Rattle.vf_layout.proofs.Parts.{own_words, values_length, threads_length}
 use Rattle.vf_layout.proofs.Blocks.{place_within}
 use Rattle.vf_layout.proofs.Image.{slot_length, slots_length, drivers_length, threads_in, values_in, drivers_in, slots_in, image, thread_changed, slot_changed}
 use Rattle.vf_layout.proofs.ValueImage.{driver_changed}
@@ -141,7 +139,7 @@ module _ (d : Elaborated) (s : State) (shape : HasShape d s) where
       ∙ slot_changed d (front_words d s) refl s shape (link_of d s) (link_of d s) q (slot_of s q) 0 own below (λ m other. refl) (sym (put_all_over own own refl))
       (omega (arith, slot_length (has_wide d) (link_of d s) (length d.processes + q) (slot_of s q)))
 
-  slot_stands : (q : ℕ) → q < d.slots → StandsAt (words_of d s) (slot_at d q) (slot_words (has_wide d) (link_of d s) (length d.processes + q, slot_of s q))
+  pub slot_stands : (q : ℕ) → q < d.slots → StandsAt (words_of d s) (slot_at d q) (slot_words (has_wide d) (link_of d s) (length d.processes + q, slot_of s q))
   slot_stands q below =
       let own = slot_words (has_wide d) (link_of d s) (length d.processes + q, slot_of s q) in
       let here : slot_at d q + 0 ≡ slot_at d q = omega arith in

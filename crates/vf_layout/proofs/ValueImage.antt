@@ -1,6 +1,6 @@
 -- What a change of one value, of a signal's element or of a driver, does to the words.
 use Rattle.std.proofs.Common.{◌≡◌, ℕ, zero, suc, ◌+◌, ◌*◌, ◌<◌, ◌≤◌, List, [], ◌∷◌, ◌++◌, length, map, take, Option, Some, None, refl, sym, ◌∙◌, ap, ap₂, subst, arith, flat_map, slice_get, slice_index, slice_index_or, slice_set, sum_by}
-use Rattle.std.proofs.lemmas.List.{append_assoc, length-append, length-map}
+use Rattle.std.proofs.lemmas.List.{append_assoc, length-append}
 use Rattle.std.proofs.lemmas.List.Elements.{All-get_or}
 use Rattle.std.proofs.lemmas.Option.{none-some, slice_get-get_or}
 use Rattle.std.specs.List.{AllZip}
@@ -12,7 +12,6 @@ use Rattle.vf_elaborated.specs.Shapes.{FitsSignal}
 use Rattle.vf_elaborated.specs.Layout.{value_size, signal_size, places_from, signals_begin, drivers_begin, places_of, width_in, count_in, width_at, IsElement, address_of}
 use Rattle.vf_elaborated.proofs.CallerLemmas.{there, places_length}
 use Rattle.vf_scheduler.specs.State.{State, elements_of}
-use Rattle.vf_scheduler.specs.Driving.{driver_widths}
 use Rattle.vf_scheduler.specs.Words.{element_words}
 use Rattle.vf_layout.specs.Puts.{put_all}
 use Rattle.vf_layout.specs.Addresses.{driver_at, HasShape}

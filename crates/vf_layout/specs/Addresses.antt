@@ -75,7 +75,7 @@ link_at d n = if nat_lt n (length d.processes) then thread_at n + 2 else slot_at
 unfoldable pub word_count : Elaborated → ℕ
 word_count d = PAGE_WORDS * ((slot_at d d.slots + (PAGE_WORDS - 1)) / PAGE_WORDS)
 
--- A state has what the design names. Each state in the middle of a turn has it, too.
+-- A state has what the design names. No more of soundness is asked for, since a state in the middle of a turn need not be sound.
 pub record HasShape (d : Elaborated) (s : State) : Type 0 where
   pub threads : length s.threads ≡ length d.processes
   pub values : AllZip FitsSignal d.signals s.values

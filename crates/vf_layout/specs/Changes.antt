@@ -3,11 +3,12 @@ use Rattle.std.specs.Prelude.{◌≡◌, ℕ, ◌+◌, ◌<◌, Bool, Option, Li
 use Rattle.vf_fours.specs.declared.Bit.{Bit}
 use Rattle.vf_elaborated.specs.Elaborated.{Elaborated}
 use Rattle.vf_elaborated.specs.Layout.{IsElement, width_at, address_of}
-use Rattle.vf_scheduler.specs.State.{State, Thread, thread_of, put_thread, elements_of, Slot}
+use Rattle.vf_scheduler.specs.State.{State, Thread, thread_of, put_thread, elements_of, Update, Slot, Later, Due}
 use Rattle.vf_scheduler.specs.Driving.{driver_widths}
 use Rattle.vf_scheduler.specs.Posting.{put_slot, time_in}
+use Rattle.vf_scheduler.specs.Sound.{slot_of}
 use Rattle.vf_scheduler.specs.Words.{link, flag, status_word, is_wide, value_words, slot_words, has_wide, link_of, words_of}
-use Rattle.vf_layout.specs.Addresses.{TIME, RUNNING, MONITOR, DUE, thread_at, driver_at, slot_at, HasShape}
+use Rattle.vf_layout.specs.Addresses.{TIME, RUNNING, MONITOR, DUE, thread_at, driver_at, slot_at}
 use Rattle.vf_layout.specs.Puts.{put_all}
 
 -- ---- the front
@@ -56,6 +57,12 @@ SlotChanges d s =
     (q : ℕ) (slot : Slot) → q < d.slots
     → words_of d (put_slot q slot s) ≡ put_all (slot_at d q) (slot_words (has_wide d) (link_of d s) (length d.processes + q, slot)) (words_of d s)
 
+-- an update of the future is one of now: its kind and time are written, and the rest stays
+abbrev pub UpdateComes : Elaborated → State → Type 0
+UpdateComes d s =
+    (q at : ℕ) (u : Update) → q < d.slots → slot_of s q ≡ Later at u
+    → words_of d (put_slot q (Due u) s) ≡ slice_set (slice_set (words_of d s) (slot_at d q) 2) (slot_at d q + 2) 0
+
 -- ---- all of it
 
 pub record Changes (d : Elaborated) (s : State) : Type 0 where
@@ -63,3 +70,4 @@ pub record Changes (d : Elaborated) (s : State) : Type 0 where
   pub values : ValueChanges d s
   pub drivers : DriverChanges d s
   pub slots : SlotChanges d s
+  pub comes : UpdateComes d s

@@ -2,4 +2,5 @@ pub mod Puts
 pub mod Addresses
 pub mod Standing
 pub mod Changes
+pub mod Regions
 pub mod Laws

@@ -5,3 +5,5 @@ pub use Rattle.vf_scheduler.proofs.Telling.{words_tell}
 pub use Rattle.vf_scheduler.proofs.ReadLemmas.{reads_on}
 -- the bits of a value are told by its words
 pub use Rattle.vf_scheduler.proofs.Values.{value_told}
+-- how often an event stands in lists
+pub use Rattle.vf_scheduler.proofs.Marks.{times-append, times_here}

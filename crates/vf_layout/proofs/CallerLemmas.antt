@@ -1,0 +1,8 @@
+-- What proofs of the crates above may use: the laws, for proofs that no law function can hand over to; what stands after words are
+-- written, and what writing in a part of a list leaves.
+pub use Rattle.vf_layout.proofs.Holding.{values_held}
+pub use Rattle.vf_layout.proofs.StandingLemmas.{words_standing}
+pub use Rattle.vf_layout.proofs.ChangeLemmas.{front_written, changes_written}
+pub use Rattle.vf_layout.proofs.FutureLemmas.{regions_written, regions_move}
+pub use Rattle.vf_layout.proofs.SoundLemmas.{sound_written}
+pub use Rattle.vf_layout.proofs.PutLemmas.{length-put_all, put_all_before, put_all_read}
