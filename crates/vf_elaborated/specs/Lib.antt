@@ -5,5 +5,8 @@ pub mod Shapes
 pub mod WellFormed
 pub mod Printing
 pub mod Layout
+pub mod Drivers
+pub mod Addresses
+pub mod Tables
 pub mod Inner
 pub mod Laws

@@ -2,11 +2,12 @@
 use Rattle.std.proofs.Common.{◌≡◌, ℕ, suc, ◌+◌, ◌<◌, ◌≤◌, Bool, true, false, if◌then◌else◌, List, [], ◌∷◌, length, refl, sym, ◌∙◌, ap, arith, slice_index, slice_index_or, slice_set}
 use Rattle.std.proofs.lemmas.List.{set-get_or, get_or-set_other, length-map, get_or-map}
 use Rattle.vf_elaborated.specs.Elaborated.{Elaborated}
+use Rattle.vf_elaborated.specs.Addresses.{has_wide, thread_at, slot_at}
 use Rattle.vf_scheduler.specs.State.{State, Thread, thread_of, put_thread, Update, Later, Due}
 use Rattle.vf_scheduler.specs.Posting.{put_slot, time_in}
 use Rattle.vf_scheduler.specs.Sound.{slot_of}
-use Rattle.vf_scheduler.specs.Words.{front_words, status_word, thread_words, slot_words, has_wide, link_of, words_of}
-use Rattle.vf_layout.specs.Addresses.{thread_at, slot_at, HasShape}
+use Rattle.vf_scheduler.specs.Words.{front_words, status_word, thread_words, slot_words, link_of, words_of}
+use Rattle.vf_layout.specs.Addresses.{HasShape}
 use Rattle.vf_layout.specs.Puts.{put_all}
 use Rattle.vf_layout.specs.Changes.{ThreadChanges, ValueChanges, DriverChanges, SlotChanges, UpdateComes}
 use Rattle.vf_layout.specs.Laws.{FrontIsWritten, ChangesAreWritten}

@@ -2,10 +2,11 @@
 use Rattle.std.proofs.Common.{◌≡◌, ◌≢◌, ℕ, ◌+◌, List, [], ◌∷◌, ◌++◌, refl, sym, ◌∙◌, ap, ap₂, arith, ⊎_elim, slice_index, slice_set}
 use Rattle.std.proofs.lemmas.Bool.{cases_eq}
 use Rattle.vf_elaborated.specs.Elaborated.{Elaborated}
+use Rattle.vf_elaborated.specs.Addresses.{FUTURE, INACTIVE, NONBLOCKING, link_at}
 use Rattle.vf_scheduler.specs.State.{State, Item}
 use Rattle.vf_scheduler.specs.Sound.{times, events}
 use Rattle.vf_scheduler.specs.Words.{link, head, next_in, numbers, words_of}
-use Rattle.vf_layout.specs.Addresses.{FUTURE, INACTIVE, NONBLOCKING, link_at, HasShape}
+use Rattle.vf_layout.specs.Addresses.{HasShape}
 use Rattle.vf_layout.specs.Regions.{FutureRegion, HasLink, number, IsQueued, put_first, put_after, moved}
 use Rattle.vf_layout.specs.Laws.{RegionsAreWritten, RegionsMove}
 use Rattle.vf_layout.proofs.Image.{image}

@@ -7,14 +7,15 @@ use Rattle.vf_base.specs.declared.write.TheConstants.{PAGE_WORDS}
 use Rattle.vf_fours.specs.declared.Bit.{Bit}
 use Rattle.vf_elaborated.specs.Elaborated.{Elaborated}
 use Rattle.vf_elaborated.specs.Layout.{value_size, signals_begin, drivers_begin}
+use Rattle.vf_elaborated.specs.Drivers.{driver_widths}
+use Rattle.vf_elaborated.specs.Addresses.{has_wide, thread_at, slot_at, slot_size}
 use Rattle.vf_scheduler.specs.State.{State, Thread, no_thread, thread_of, put_thread, Slot, Free, Later, Due, Strobed}
-use Rattle.vf_scheduler.specs.Driving.{driver_widths}
 use Rattle.vf_scheduler.specs.Posting.{put_slot}
 use Rattle.vf_scheduler.specs.Sound.{slot_of}
-use Rattle.vf_scheduler.specs.Words.{element_words, thread_words, slot_words, status_word, update_words, has_wide, filled}
+use Rattle.vf_scheduler.specs.Words.{element_words, thread_words, slot_words, status_word, update_words, filled}
 use Rattle.vf_scheduler.specs.Posting.{time_in}
 use Rattle.vf_layout.specs.Puts.{put_all}
-use Rattle.vf_layout.specs.Addresses.{thread_at, slot_at, slot_size, HasShape}
+use Rattle.vf_layout.specs.Addresses.{HasShape}
 use Rattle.vf_layout.proofs.PutLemmas.{length-put_all, put_all_left, put_between}
 use Rattle.vf_layout.proofs.Parts.{own_words, own_length, values_length, threads_length}
 use Rattle.vf_layout.proofs.Blocks.{none_changed, one_changed}

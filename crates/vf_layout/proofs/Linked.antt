@@ -4,11 +4,12 @@ use Rattle.std.proofs.Math.Path.{fun_ext}
 use Rattle.std.proofs.lemmas.Bool.{false≢true, eq-eqb, ne_eqb, cases_eq, lt-ltb, le-ltb}
 use Rattle.std.proofs.lemmas.List.{set-get_or, get_or-set_same}
 use Rattle.vf_elaborated.specs.Elaborated.{Elaborated}
+use Rattle.vf_elaborated.specs.Addresses.{has_wide, thread_at, slot_at, link_at, word_count}
 use Rattle.vf_scheduler.specs.State.{State, no_thread, thread_of, Slot, Free, Later, Due, Strobed, Item, of_process, of_slot}
 use Rattle.vf_scheduler.specs.Posting.{is_free, time_in}
 use Rattle.vf_scheduler.specs.Sound.{slot_of}
-use Rattle.vf_scheduler.specs.Words.{status_word, update_words, slot_words, has_wide}
-use Rattle.vf_layout.specs.Addresses.{thread_at, slot_at, link_at, word_count, HasShape}
+use Rattle.vf_scheduler.specs.Words.{status_word, update_words, slot_words}
+use Rattle.vf_layout.specs.Addresses.{HasShape}
 use Rattle.vf_layout.specs.Puts.{put_all}
 use Rattle.vf_layout.specs.Regions.{HasLink, number}
 use Rattle.vf_layout.proofs.Image.{image, thread_changed, slot_changed}

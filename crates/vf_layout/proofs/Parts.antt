@@ -9,8 +9,9 @@ use Rattle.vf_elaborated.specs.Elaborated.{Elaborated}
 use Rattle.vf_elaborated.specs.Values.{Elements}
 use Rattle.vf_elaborated.specs.Shapes.{FitsSignal}
 use Rattle.vf_elaborated.specs.Layout.{value_size, signal_size, end_from}
+use Rattle.vf_elaborated.specs.Addresses.{is_wide, has_wide}
 use Rattle.vf_scheduler.specs.State.{State, Thread}
-use Rattle.vf_scheduler.specs.Words.{is_wide, value_words, element_words, thread_words, slot_words, has_wide, link_of}
+use Rattle.vf_scheduler.specs.Words.{value_words, element_words, thread_words, slot_words, link_of}
 
 -- the words of a value
 abbrev pub own_words : List Bit → List ℕ

@@ -4,10 +4,11 @@ use Rattle.std.proofs.Math.Path.{fun_ext}
 use Rattle.std.proofs.lemmas.Bool.{false≢true, ne_eqb}
 use Rattle.std.proofs.lemmas.Option.{same_Some}
 use Rattle.vf_elaborated.specs.Elaborated.{Elaborated}
+use Rattle.vf_elaborated.specs.Addresses.{link_at}
 use Rattle.vf_scheduler.specs.State.{State, Item}
 use Rattle.vf_scheduler.specs.Words.{link, head, tail, next_in, numbers, words_of}
 use Rattle.vf_scheduler.proofs.CallerLemmas.{times-append, times_here}
-use Rattle.vf_layout.specs.Addresses.{link_at, HasShape}
+use Rattle.vf_layout.specs.Addresses.{HasShape}
 use Rattle.vf_layout.specs.Regions.{Region, ActiveRegion, InactiveRegion, NonblockingRegion, FutureRegion, StrobeRegion, list_in, with_list, head_at, has_tail, HasLink, number, IsQueued, joined, taken}
 use Rattle.vf_layout.proofs.Image.{image}
 use Rattle.vf_layout.proofs.Linked.{is_reset, relinked, link_read}

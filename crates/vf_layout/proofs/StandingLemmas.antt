@@ -4,11 +4,12 @@ use Rattle.std.proofs.lemmas.List.{length-append, length-replicate, length-map, 
 use Rattle.vf_base.specs.declared.write.TheConstants.{PAGE_WORDS}
 use Rattle.vf_elaborated.specs.Elaborated.{Elaborated}
 use Rattle.vf_elaborated.specs.Layout.{value_size, signals_begin}
+use Rattle.vf_elaborated.specs.Addresses.{has_wide, thread_at, driver_at, slot_at, slot_size, word_count}
 use Rattle.vf_scheduler.specs.State.{State, no_thread, thread_of, Free}
 use Rattle.vf_scheduler.specs.Sound.{slot_of}
-use Rattle.vf_scheduler.specs.Words.{front_words, thread_words, slot_words, has_wide, filled, link_of, words_of}
+use Rattle.vf_scheduler.specs.Words.{front_words, thread_words, slot_words, filled, link_of, words_of}
 use Rattle.vf_layout.specs.Puts.{put_all, StandsAt}
-use Rattle.vf_layout.specs.Addresses.{thread_at, driver_at, slot_at, slot_size, word_count, HasShape}
+use Rattle.vf_layout.specs.Addresses.{HasShape}
 use Rattle.vf_layout.specs.Standing.{FrontStands, ThreadStands, Stands}
 use Rattle.vf_layout.specs.Laws.{WordsStand}
 use Rattle.vf_layout.proofs.PutLemmas.{put_all_over, put_all_read}

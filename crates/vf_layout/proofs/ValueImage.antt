@@ -10,11 +10,12 @@ use Rattle.vf_elaborated.specs.Elaborated.{Elaborated}
 use Rattle.vf_elaborated.specs.Values.{Elements}
 use Rattle.vf_elaborated.specs.Shapes.{FitsSignal}
 use Rattle.vf_elaborated.specs.Layout.{value_size, signal_size, places_from, signals_begin, drivers_begin, places_of, width_in, count_in, width_at, IsElement, address_of}
+use Rattle.vf_elaborated.specs.Addresses.{driver_at}
 use Rattle.vf_elaborated.proofs.CallerLemmas.{there, places_length}
 use Rattle.vf_scheduler.specs.State.{State, elements_of}
 use Rattle.vf_scheduler.specs.Words.{element_words}
 use Rattle.vf_layout.specs.Puts.{put_all}
-use Rattle.vf_layout.specs.Addresses.{driver_at, HasShape}
+use Rattle.vf_layout.specs.Addresses.{HasShape}
 use Rattle.vf_layout.proofs.PutLemmas.{put_all_left, put_all_right}
 use Rattle.vf_layout.proofs.Parts.{own_words, own_length, signal_length, values_length, threads_length}
 use Rattle.vf_layout.proofs.Blocks.{bits_changed, even_places, place_within}

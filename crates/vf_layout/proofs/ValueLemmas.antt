@@ -7,7 +7,8 @@ use Rattle.vf_fours.specs.Numbers.{weight_of}
 use Rattle.vf_fours.specs.Planes.{bits_of, in_ones, in_unknown, ones_of, unknown_of}
 use Rattle.vf_fours.specs.Shapes.{length-bits_of, ones_of-bits_of, unknown_of-bits_of}
 use Rattle.vf_elaborated.specs.Layout.{plane_at, value_at, HasValue}
-use Rattle.vf_scheduler.specs.Words.{is_wide, value_words}
+use Rattle.vf_elaborated.specs.Addresses.{is_wide}
+use Rattle.vf_scheduler.specs.Words.{value_words}
 use Rattle.vf_scheduler.proofs.CallerLemmas.{value_told}
 use Rattle.vf_layout.specs.Puts.{StandsAt}
 

@@ -3,12 +3,12 @@ use Rattle.std.specs.Prelude.{◌≡◌, ℕ, ◌+◌, ◌<◌, Bool, Option, Li
 use Rattle.vf_fours.specs.declared.Bit.{Bit}
 use Rattle.vf_elaborated.specs.Elaborated.{Elaborated}
 use Rattle.vf_elaborated.specs.Layout.{IsElement, width_at, address_of}
+use Rattle.vf_elaborated.specs.Drivers.{driver_widths}
+use Rattle.vf_elaborated.specs.Addresses.{is_wide, has_wide, TIME, RUNNING, MONITOR, DUE, thread_at, driver_at, slot_at}
 use Rattle.vf_scheduler.specs.State.{State, Thread, thread_of, put_thread, elements_of, Update, Slot, Later, Due}
-use Rattle.vf_scheduler.specs.Driving.{driver_widths}
 use Rattle.vf_scheduler.specs.Posting.{put_slot, time_in}
 use Rattle.vf_scheduler.specs.Sound.{slot_of}
-use Rattle.vf_scheduler.specs.Words.{link, flag, status_word, is_wide, value_words, slot_words, has_wide, link_of, words_of}
-use Rattle.vf_layout.specs.Addresses.{TIME, RUNNING, MONITOR, DUE, thread_at, driver_at, slot_at}
+use Rattle.vf_scheduler.specs.Words.{link, flag, status_word, value_words, slot_words, link_of, words_of}
 use Rattle.vf_layout.specs.Puts.{put_all}
 
 -- ---- the front

@@ -2,11 +2,11 @@
 -- (docs/LANGUAGE.md, "The words of a state").
 use Rattle.std.specs.Prelude.{◌≡◌, ℕ, ◌+◌, ◌-◌, ◌<◌, ◌≤◌, Bool, true, false, ◌&&◌, ◌==◌, List, [], ◌∷◌, ◌++◌, length, slice_index, slice_set, if◌then◌else◌}
 use Rattle.vf_elaborated.specs.Elaborated.{Elaborated}
+use Rattle.vf_elaborated.specs.Addresses.{ACTIVE, INACTIVE, NONBLOCKING, FUTURE, STROBES, link_at}
 use Rattle.vf_scheduler.specs.State.{State, Item, of_process, of_slot}
 use Rattle.vf_scheduler.specs.Posting.{is_free}
 use Rattle.vf_scheduler.specs.Sound.{times, events, slot_of}
 use Rattle.vf_scheduler.specs.Words.{item_number, link, head, numbers, link_of, words_of}
-use Rattle.vf_layout.specs.Addresses.{ACTIVE, INACTIVE, NONBLOCKING, FUTURE, STROBES, link_at}
 
 -- ---- the lists
 

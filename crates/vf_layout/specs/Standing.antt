@@ -3,12 +3,12 @@ use Rattle.std.specs.Prelude.{◌≡◌, ℕ, ◌+◌, ◌<◌, List, [], length
 use Rattle.vf_fours.specs.declared.Bit.{Bit}
 use Rattle.vf_elaborated.specs.Elaborated.{Elaborated}
 use Rattle.vf_elaborated.specs.Layout.{IsElement, address_of}
+use Rattle.vf_elaborated.specs.Drivers.{driver_widths}
+use Rattle.vf_elaborated.specs.Addresses.{is_wide, has_wide, TIME, RUNNING, ACTIVE, INACTIVE, NONBLOCKING, FUTURE, STROBES, MONITOR, DUE, thread_at, driver_at, slot_at, word_count}
 use Rattle.vf_scheduler.specs.State.{State, thread_of, bits_of}
-use Rattle.vf_scheduler.specs.Driving.{driver_widths}
 use Rattle.vf_scheduler.specs.Posting.{time_in}
 use Rattle.vf_scheduler.specs.Sound.{slot_of}
-use Rattle.vf_scheduler.specs.Words.{link, head, tail, flag, status_word, is_wide, value_words, slot_words, has_wide, numbers, link_of}
-use Rattle.vf_layout.specs.Addresses.{TIME, RUNNING, ACTIVE, INACTIVE, NONBLOCKING, FUTURE, STROBES, MONITOR, DUE, thread_at, driver_at, slot_at, word_count}
+use Rattle.vf_scheduler.specs.Words.{link, head, tail, flag, status_word, value_words, slot_words, numbers, link_of}
 use Rattle.vf_layout.specs.Puts.{StandsAt}
 
 -- the ends of a list of events, by their numbers: 0 where it is empty

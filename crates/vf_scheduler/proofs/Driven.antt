@@ -12,8 +12,9 @@ use Rattle.vf_elaborated.specs.declared.code.Target.{Target}
 use Rattle.vf_elaborated.specs.declared.code.TargetPiece.{TargetPiece}
 use Rattle.vf_elaborated.specs.Elaborated.{Elaborated}
 use Rattle.vf_elaborated.specs.WellFormed.{IsWellFormed, is_piece, is_piece_of, target_width}
+use Rattle.vf_elaborated.specs.Drivers.{target_of, width_of, driver_widths}
 use Rattle.vf_scheduler.specs.State.{State}
-use Rattle.vf_scheduler.specs.Driving.{target_of, width_of, driver_widths, net_bits, net_width, resolved, resolved_all, put_driver, driver_takes}
+use Rattle.vf_scheduler.specs.Driving.{net_bits, net_width, resolved, resolved_all, put_driver, driver_takes}
 use Rattle.vf_scheduler.specs.Sound.{FitsIn}
 use Rattle.vf_scheduler.proofs.Starts.{net_length}
 use Rattle.vf_scheduler.proofs.Held.{Held}

@@ -10,8 +10,8 @@ use Rattle.vf_elaborated.specs.declared.design.Process.{Process}
 use Rattle.vf_elaborated.specs.Elaborated.{Elaborated}
 use Rattle.vf_elaborated.specs.Values.{Elements}
 use Rattle.vf_elaborated.specs.Shapes.{FitsSignal}
+use Rattle.vf_elaborated.specs.Drivers.{driver_widths}
 use Rattle.vf_scheduler.specs.State.{State, Status, Halted, Waiting, Active, Inactive, Future, Running, Thread, Slot, Free, Later, Due, Strobed, Item, of_process, of_slot, no_thread, thread_of}
-use Rattle.vf_scheduler.specs.Driving.{driver_widths}
 use Rattle.vf_scheduler.specs.Posting.{time_of, time_in, slot_time}
 use Rattle.vf_scheduler.specs.Sound.{IsSound, IsSlot, Stands, Rises, times, events, region_of, slot_region, listed, slot_listed, slot_of, is_running, same_item}
 use Rattle.vf_scheduler.proofs.Marks.{Mark, Nowhere, Runs, InActive, InInactive, InFuture, IsDue, InStrobes, mark_time, runs, often, own, Placed, times-append}

@@ -17,10 +17,11 @@ use Rattle.vf_elaborated.specs.Elaborated.{Elaborated}
 use Rattle.vf_elaborated.specs.Values.{is_match, is_true, delay_of, rounds_of}
 use Rattle.vf_elaborated.specs.Shapes.{Shape, shape_of, is_width}
 use Rattle.vf_elaborated.specs.WellFormed.{IsWellFormed, is_process, is_instr, is_drive, ends_code, is_assignment, is_target, is_piece, is_driven, is_expr, is_counter, has_width, target_width}
+use Rattle.vf_elaborated.specs.Drivers.{driven_by}
 use Rattle.vf_elaborated.proofs.CallerLemmas.{values_shaped, digits_length}
 use Rattle.vf_scheduler.specs.State.{State, Waiting, Update, worth, scene_of, instr_at, goes_to, leaves}
 use Rattle.vf_scheduler.specs.Updating.{updated_all}
-use Rattle.vf_scheduler.specs.Driving.{driven_by, driver_takes}
+use Rattle.vf_scheduler.specs.Driving.{driver_takes}
 use Rattle.vf_scheduler.specs.Performing.{perform, perform_one, now, counter_update, delay_in, driver_of, show_of}
 use Rattle.vf_scheduler.specs.Sound.{FitsIn, IsUpdate}
 use Rattle.vf_scheduler.proofs.Held.{Held}

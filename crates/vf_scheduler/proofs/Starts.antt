@@ -15,10 +15,11 @@ use Rattle.vf_elaborated.specs.declared.code.TargetPiece.{TargetPiece}
 use Rattle.vf_elaborated.specs.Elaborated.{Elaborated}
 use Rattle.vf_elaborated.specs.Shapes.{FitsSignal}
 use Rattle.vf_elaborated.specs.WellFormed.{is_process, is_code, is_ended}
+use Rattle.vf_elaborated.specs.Drivers.{driver_widths}
 use Rattle.vf_elaborated.proofs.CallerLemmas.{zip_length, chosen_length}
 use Rattle.vf_scheduler.specs.State.{Active, Thread, Slot, Free, Item, of_process, of_slot, no_thread, thread_of}
 use Rattle.vf_scheduler.specs.Assigning.{piece_low}
-use Rattle.vf_scheduler.specs.Driving.{driven, spread, constant_worth, net_bits, driver_parts, driver_widths}
+use Rattle.vf_scheduler.specs.Driving.{driven, spread, constant_worth, net_bits, driver_parts}
 use Rattle.vf_scheduler.specs.Turning.{start, first_drivers, elements_from}
 use Rattle.vf_scheduler.specs.Sound.{Stands, IsSlot, times, listed, region_of, slot_of, slot_region, slot_listed, is_running}
 use Rattle.vf_scheduler.specs.Laws.{StartIsSound}

@@ -8,9 +8,10 @@ use Rattle.std.proofs.lemmas.Slice.Zip.{AllZip-long}
 use Rattle.vf_elaborated.specs.declared.design.Signal.{Signal}
 use Rattle.vf_elaborated.specs.Elaborated.{Elaborated}
 use Rattle.vf_elaborated.specs.WellFormed.{IsWellFormed}
+use Rattle.vf_elaborated.specs.Addresses.{has_wide}
 use Rattle.vf_scheduler.specs.State.{State, Update, Slot, Free, Later, Due, Strobed, Item, of_process, of_slot}
 use Rattle.vf_scheduler.specs.Posting.{is_free}
-use Rattle.vf_scheduler.specs.Words.{item_number, link, head, next_among, flag, has_wide, numbers, link_of, used_words, words_of, thread_words, element_words, slot_words}
+use Rattle.vf_scheduler.specs.Words.{item_number, link, head, next_among, flag, numbers, link_of, used_words, words_of, thread_words, element_words, slot_words}
 use Rattle.vf_scheduler.specs.Sound.{times, slot_of, FitsIn, IsUpdate, IsSlot}
 use Rattle.vf_scheduler.specs.Laws.{WordsTellTheState}
 use Rattle.vf_scheduler.proofs.Marks.{Nowhere, few}

@@ -10,7 +10,8 @@ use Rattle.vf_fours.specs.Planes.{bit_of, in_ones, in_unknown, ones_of, unknown_
 use Rattle.vf_elaborated.specs.declared.design.Signal.{Signal}
 use Rattle.vf_elaborated.specs.Values.{Elements}
 use Rattle.vf_elaborated.specs.Shapes.{FitsSignal}
-use Rattle.vf_scheduler.specs.Words.{is_wide, value_words, element_words}
+use Rattle.vf_elaborated.specs.Addresses.{is_wide}
+use Rattle.vf_scheduler.specs.Words.{value_words, element_words}
 
 -- ---- words
 

@@ -13,8 +13,9 @@ use Rattle.vf_elaborated.specs.Elaborated.{Elaborated}
 use Rattle.vf_elaborated.specs.Values.{Elements}
 use Rattle.vf_elaborated.specs.Shapes.{FitsSignal}
 use Rattle.vf_elaborated.specs.WellFormed.{IsWellFormed, is_process}
+use Rattle.vf_elaborated.specs.Tables.{numbers_from}
 use Rattle.vf_scheduler.specs.State.{State, Status, Halted, Waiting, Active, Inactive, Future, Running, Thread, Update, Item, of_process, of_slot, no_thread, elements_of, bits_of}
-use Rattle.vf_scheduler.specs.Updating.{is_waiting, is_woken, instr_of, place_after, woken, numbers_from, monitors, overwritten, same_bits, wake, updated, updated_all}
+use Rattle.vf_scheduler.specs.Updating.{is_waiting, is_woken, instr_of, place_after, woken, monitors, overwritten, same_bits, wake, updated, updated_all}
 use Rattle.vf_scheduler.specs.Sound.{times, FitsIn, IsUpdate}
 use Rattle.vf_scheduler.proofs.Marks.{Mark, Nowhere}
 use Rattle.vf_scheduler.proofs.Moves.{Wakes, wakes, sleeps, wake_up}

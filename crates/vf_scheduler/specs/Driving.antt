@@ -1,40 +1,20 @@
 -- Continuous assignments: what the drivers of a net make of it (docs/LANGUAGE.md, "The scheduler"; IEEE Std 1364-2005, 4.6.1 and 6.1).
 use Rattle.std.specs.Prelude.{ℕ, false, ◌==◌, List, [], ◌∷◌, replicate, Option, Some, None, slice_get, slice_set, slice_index_or, if◌then◌else◌, ℤ, pos, negsuc, ◌-ℤ◌}
-use Rattle.std.specs.List.{flat_map, fold, filter_map}
-use Rattle.std.specs.Option.{option_map}
+use Rattle.std.specs.List.{flat_map, fold}
 use Rattle.vf_fours.specs.declared.Bit.{Bit}
 use Rattle.vf_fours.specs.declared.Bit.TheVariants.{Z}
 use Rattle.vf_fours.specs.Bits.{FourState, zip_with, wire_bit, tabulate}
 use Rattle.vf_elaborated.specs.declared.design.Signal.{Signal}
 use Rattle.vf_elaborated.specs.declared.design.Process.{Process}
-use Rattle.vf_elaborated.specs.declared.code.Instr.{Instr}
-use Rattle.vf_elaborated.specs.declared.code.Instr.TheVariants.{Drive}
 use Rattle.vf_elaborated.specs.declared.code.Target.{Target}
 use Rattle.vf_elaborated.specs.declared.code.TargetPiece.{TargetPiece}
 use Rattle.vf_elaborated.specs.declared.expr.Expr.{Expr}
 use Rattle.vf_elaborated.specs.Elaborated.{Elaborated}
 use Rattle.vf_elaborated.specs.Values.{worth_of}
-use Rattle.vf_elaborated.specs.WellFormed.{target_width}
+use Rattle.vf_elaborated.specs.Drivers.{target_of}
 use Rattle.vf_scheduler.specs.State.{State}
 use Rattle.vf_scheduler.specs.Assigning.{piece_low, cut}
 use Rattle.vf_scheduler.specs.Updating.{updated}
-
--- the target of a process that is a continuous assignment
-abbrev pub driven_by : Option Instr → Option Target
-driven_by (Some (Drive target e)) = Some target
-driven_by _ = None
-
-abbrev pub target_of : Process → Option Target
-target_of process = driven_by (slice_get process.code 0)
-
--- how many bits a driver has
-abbrev pub width_of : Option Target → ℕ
-width_of None = 0
-width_of (Some target) = target_width target
-
--- the bits of each driver
-abbrev pub driver_widths : Elaborated → List ℕ
-driver_widths d = filter_map (λ (process : Process). option_map (λ driver. width_of (target_of process)) process.driver) d.processes
 
 -- the pieces of a driver with their bits
 abbrev pub parts_of : Option Target → List Bit → List (TargetPiece × List Bit)

@@ -5,8 +5,8 @@ use Rattle.vf_elaborated.specs.declared.design.Signal.{Signal}
 use Rattle.vf_elaborated.specs.declared.design.Process.{Process}
 use Rattle.vf_elaborated.specs.Elaborated.{Elaborated}
 use Rattle.vf_elaborated.specs.Shapes.{FitsSignal}
+use Rattle.vf_elaborated.specs.Drivers.{driver_widths}
 use Rattle.vf_scheduler.specs.State.{State, Status, Active, Inactive, Future, Running, Thread, Update, Slot, Free, Later, Due, Strobed, Item, of_process, of_slot, thread_of}
-use Rattle.vf_scheduler.specs.Driving.{driver_widths}
 use Rattle.vf_scheduler.specs.Posting.{time_of}
 
 -- ---- events and lists

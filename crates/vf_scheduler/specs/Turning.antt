@@ -8,9 +8,10 @@ use Rattle.vf_machine.specs.Machine.{Move, go, stop, Sight}
 use Rattle.vf_elaborated.specs.declared.design.Signal.{Signal}
 use Rattle.vf_elaborated.specs.Elaborated.{Elaborated}
 use Rattle.vf_elaborated.specs.Values.{Elements}
+use Rattle.vf_elaborated.specs.Drivers.{driver_widths}
 use Rattle.vf_scheduler.specs.State.{State, Active, Running, Slot, Free, Later, Due, Strobed, Item, of_process, of_slot, thread_of, put_thread, instr_at}
 use Rattle.vf_scheduler.specs.Updating.{updated}
-use Rattle.vf_scheduler.specs.Driving.{net_bits, driver_widths}
+use Rattle.vf_scheduler.specs.Driving.{net_bits}
 use Rattle.vf_scheduler.specs.Posting.{put_slot, time_of}
 use Rattle.vf_scheduler.specs.Printing.{shown}
 use Rattle.vf_scheduler.specs.Performing.{perform}

@@ -16,6 +16,7 @@ use Rattle.vf_elaborated.specs.declared.code.Instr.{Instr}
 use Rattle.vf_elaborated.specs.declared.code.Instr.TheVariants.{Await, Until, Drive}
 use Rattle.vf_elaborated.specs.Elaborated.{Elaborated}
 use Rattle.vf_elaborated.specs.Values.{reads_signal}
+use Rattle.vf_elaborated.specs.Tables.{numbers_from}
 use Rattle.vf_scheduler.specs.State.{State, Thread, Status, Waiting, Active, Update, of_process, elements_of, bits_of}
 
 -- ---- events
@@ -79,11 +80,6 @@ place_after _ place = place
 abbrev pub woken : (Process × Thread → Bool) → Process × Thread → Thread
 woken test pair =
     if test pair then record { place = place_after (instr_of pair) pair.1.place; status = Active } else pair.1
-
--- the numbers of the processes that wake, rising
-abbrev pub numbers_from : {A : Type 0} → (A → Bool) → ℕ → List A → List ℕ
-numbers_from test n [] = []
-numbers_from test n (x ∷ rest) = if test x then n ∷ numbers_from test (n + 1) rest else numbers_from test (n + 1) rest
 
 -- ---- the monitor
 

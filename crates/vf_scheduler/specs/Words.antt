@@ -1,13 +1,13 @@
 -- The 64-bit words of a state (docs/LANGUAGE.md, "The words of a state").
-use Rattle.std.specs.Prelude.{ℕ, ◌+◌, ◌-◌, ◌*◌, ◌/◌, ◌%◌, ◌^◌, Bool, true, false, ◌==◌, List, [], ◌∷◌, ◌++◌, length, map, replicate, Option, Some, None, nat_lt, if◌then◌else◌}
-use Rattle.std.specs.List.{list_any, flat_map, enumerate_from}
+use Rattle.std.specs.Prelude.{ℕ, ◌+◌, ◌-◌, ◌*◌, ◌/◌, ◌%◌, ◌^◌, Bool, true, false, ◌==◌, List, [], ◌∷◌, ◌++◌, length, map, replicate, Option, Some, None, if◌then◌else◌}
+use Rattle.std.specs.List.{flat_map, enumerate_from}
 use Rattle.std.specs.Option.{option_or}
 use Rattle.vf_base.specs.declared.write.TheConstants.{PAGE_WORDS}
 use Rattle.vf_fours.specs.declared.Bit.{Bit}
 use Rattle.vf_fours.specs.Planes.{ones_of, unknown_of}
-use Rattle.vf_elaborated.specs.declared.design.Signal.{Signal}
 use Rattle.vf_elaborated.specs.Elaborated.{Elaborated}
 use Rattle.vf_elaborated.specs.Values.{Elements}
+use Rattle.vf_elaborated.specs.Addresses.{is_wide, has_wide}
 use Rattle.vf_scheduler.specs.State.{State, Status, Halted, Waiting, Active, Inactive, Future, Running, Thread, Update, Slot, Free, Later, Due, Strobed, Item, of_process, of_slot}
 use Rattle.vf_scheduler.specs.Posting.{time_in}
 
@@ -43,9 +43,6 @@ next_among n [] = None
 next_among n (list ∷ rest) = option_or (next_in n list) (next_among n rest)
 
 -- ---- values
-
-abbrev pub is_wide : ℕ → Bool
-is_wide width = nat_lt 64 width
 
 -- a value of up to 64 bits: its 1s and xs, then its xs and zs
 abbrev pub narrow_words : List Bit → List ℕ
@@ -91,10 +88,6 @@ slot_words wide links (n, Due u) = 2 ∷ links n ∷ 0 ∷ update_words wide u
 slot_words wide links (n, Strobed show) = 3 ∷ links n ∷ 0 ∷ show ∷ replicate (2 + value_size wide) 0
 
 -- ---- all of it
-
--- a slot is wide where some signal is
-abbrev pub has_wide : Elaborated → Bool
-has_wide d = list_any (λ (signal : Signal). is_wide signal.width) d.signals
 
 abbrev pub ends : List ℕ → List ℕ
 ends list = link (head list) ∷ link (tail list) ∷ []
