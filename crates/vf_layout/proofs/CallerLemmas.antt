@@ -6,3 +6,5 @@ pub use Rattle.vf_layout.proofs.ChangeLemmas.{front_written, changes_written}
 pub use Rattle.vf_layout.proofs.FutureLemmas.{regions_written, regions_move}
 pub use Rattle.vf_layout.proofs.SoundLemmas.{sound_written}
 pub use Rattle.vf_layout.proofs.PutLemmas.{length-put_all, put_all_before, put_all_read}
+-- what the operations on a list write, by what its ends are
+pub use Rattle.vf_layout.proofs.Queueing.{joined_empty, joined_more, taken_by}

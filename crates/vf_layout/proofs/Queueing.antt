@@ -18,13 +18,13 @@ use Rattle.vf_layout.proofs.Lists.{last_item, last_counted, tail_last, numbers-a
 
 -- ---- writes, by what the ends are
 
-joined_empty : (d : Elaborated) (at n : ℕ) (words : List ℕ) → slice_index words at ≡ 0 → joined d at n words ≡ slice_set (slice_set words (at + 1) (n + 1)) at (n + 1)
+pub joined_empty : (d : Elaborated) (at n : ℕ) (words : List ℕ) → slice_index words at ≡ 0 → joined d at n words ≡ slice_set (slice_set words (at + 1) (n + 1)) at (n + 1)
 unfolding joined
 joined_empty d at n words none =
     ap (λ first. if first == 0 then slice_set (slice_set words (at + 1) (n + 1)) at (n + 1) else slice_set (slice_set words (at + 1) (n + 1)) (link_at d (slice_index words (at + 1) - 1)) (n + 1))
     none
 
-joined_more : (d : Elaborated) (at n m last : ℕ) (words : List ℕ) → slice_index words at ≡ m + 1 → slice_index words (at + 1) ≡ last + 1
+pub joined_more : (d : Elaborated) (at n m last : ℕ) (words : List ℕ) → slice_index words at ≡ m + 1 → slice_index words (at + 1) ≡ last + 1
     → joined d at n words ≡ slice_set (slice_set words (at + 1) (n + 1)) (link_at d last) (n + 1)
 unfolding joined
 joined_more d at n m last words some ends =
@@ -33,7 +33,7 @@ joined_more d at n m last words some ends =
     (ne_eqb (slice_index words at) 0 (λ none. omega (arith, some, none)))
     ∙ ap (λ last. slice_set (slice_set words (at + 1) (n + 1)) (link_at d last) (n + 1)) place
 
-taken_by : (d : Elaborated) (at n next : ℕ) (tailed : Bool) (words : List ℕ) → slice_index words at ≡ n + 1 → slice_index words (link_at d n) ≡ next
+pub taken_by : (d : Elaborated) (at n next : ℕ) (tailed : Bool) (words : List ℕ) → slice_index words at ≡ n + 1 → slice_index words (link_at d n) ≡ next
     → taken d at tailed words ≡ slice_set (slice_set (if tailed && next == 0 then slice_set words (at + 1) 0 else words) at next) (link_at d n) 0
 unfolding taken
 taken_by d at n next tailed words first follows =

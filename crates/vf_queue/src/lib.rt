@@ -1,0 +1,6 @@
+//! The event queue in the words of a state: what a turn does to the lists of events, to processes and to event slots.
+#![tactic(auto)]
+
+mod addresses;
+mod lists;
+mod writes;
