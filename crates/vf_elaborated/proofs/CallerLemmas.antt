@@ -5,3 +5,5 @@ pub use Rattle.vf_elaborated.proofs.Shaped.{told_roll, values_shaped}
 pub use Rattle.vf_elaborated.proofs.OperatorShapes.{zip_length, chosen_length, digits_length}
 -- where the elements of signals stand among the words, and what is read there
 pub use Rattle.vf_elaborated.proofs.LayoutLemmas.{values_fit, places_length, there, end_grows, address_ends, drivers_small, address_read}
+-- each address is among the words of a state, which are few; where the link of an event stands
+pub use Rattle.vf_elaborated.proofs.AddressLemmas.{words_small, front_inside, thread_inside, address_inside, driver_inside, slots_end, slot_inside, link_of_process, link_beyond, link_of_slot, link_inside}

@@ -1,5 +1,5 @@
 -- Where a signal's elements stand among the words, and what is read there.
-use Rattle.std.proofs.Common.{◌≡◌, ◌<◌, ◌≤◌, ℕ, zero, suc, ◌+◌, ◌*◌, ◌^◌, Bool, true, false, ◌&&◌, ◌||◌, List, [], ◌∷◌, length, drop, slice_get, slice_index_or, Option, Some, None, cond, refl, sym, ◌∙◌, ap, ap₂, subst, arith}
+use Rattle.std.proofs.Common.{◌≡◌, ◌<◌, ◌≤◌, ℕ, zero, suc, ◌+◌, ◌*◌, ◌^◌, Bool, true, false, ◌||◌, List, [], ◌∷◌, length, drop, slice_get, slice_index_or, Option, Some, None, refl, sym, ◌∙◌, ap, ap₂, subst, arith}
 use Rattle.std.proofs.lemmas.Bool.{eqb-true, and_parts}
 use Rattle.std.proofs.lemmas.List.Elements.{All-nil, All-cons}
 use Rattle.std.proofs.Math.Seq.{drop-cons}
@@ -7,12 +7,10 @@ use Rattle.std.proofs.lemmas.Option.{slice_get-get_or}
 use Rattle.std.proofs.lemmas.List.Sums.{sum_by-cons}
 use Rattle.std.specs.Prelude.{nat_lt, nat_le, ◌==◌, if◌then◌else◌, slice_index}
 use Rattle.std.specs.List.{list_all, sum_by, All, AllZip}
-use Rattle.vf_fours.specs.declared.Bit.{Bit}
 use Rattle.vf_fours.specs.Planes.{bits_of}
 use Rattle.vf_fours.specs.Shapes.{length-tabulate}
 use Rattle.vf_elaborated.specs.declared.design.Signal.{Signal}
 use Rattle.vf_elaborated.specs.Elaborated.{Elaborated}
-use Rattle.vf_elaborated.specs.Values.{Elements}
 use Rattle.vf_elaborated.specs.Shapes.{FitsSignal, is_width}
 use Rattle.vf_elaborated.specs.WellFormed.{IsWellFormed, is_signal, memory_elements}
 use Rattle.vf_elaborated.specs.Layout.{value_size, signal_size, places_from, end_from, signals_begin, drivers_begin, places_of, count_in, width_in, address_of, value_at, elements_at, values_at}
@@ -101,7 +99,7 @@ size_by signal true one m e h = omega arith
 size_by signal false true m e h = let n = eqb-true signal.elements 1 e in omega (arith, n)
 size_by signal false false m e h = absurd (cc h)
 
-value_small : (width : ℕ) (wide : Bool) → (if wide then 4 else 2) ≤ 4
+pub value_small : (width : ℕ) (wide : Bool) → (if wide then 4 else 2) ≤ 4
 value_small width true = omega arith
 value_small width false = omega arith
 

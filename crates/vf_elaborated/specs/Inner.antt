@@ -3,7 +3,7 @@ use Rattle.std.specs.Prelude.{◌≡◌}
 use Rattle.vf_elaborated.specs.declared.design.Design.TheInside.{Inside}
 use Rattle.vf_elaborated.specs.Elaborated.{Elaborated}
 use Rattle.vf_elaborated.specs.WellFormed.{IsWellFormed}
-use Rattle.vf_elaborated.specs.Layout.{places_of}
+use Rattle.vf_elaborated.specs.Places.{places_for}
 
 abbrev pub elaborated_of : Inside → Elaborated
 elaborated_of d = record {
@@ -16,4 +16,4 @@ elaborated_of d = record {
 }
 
 abbrev pub IsKept : Inside → Type 0
-IsKept d = IsWellFormed (elaborated_of d) × (d.places ≡ places_of (elaborated_of d))
+IsKept d = IsWellFormed (elaborated_of d) × (d.places ≡ places_for (elaborated_of d))

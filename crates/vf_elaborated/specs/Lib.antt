@@ -7,6 +7,7 @@ pub mod Printing
 pub mod Layout
 pub mod Drivers
 pub mod Addresses
+pub mod Places
 pub mod Tables
 pub mod Inner
 pub mod Laws

@@ -1,9 +1,12 @@
-ghost use Rattle.std.specs.Prelude.{◌≡◌, ◌<◌, ◌^◌, IfOk};
+ghost use Rattle.std.specs.Prelude.{◌≡◌, ◌<◌, ◌+◌, length, IfOk};
 ghost use Rattle.vf_elaborated.specs.Elaborated.{Elaborated};
 ghost use Rattle.vf_elaborated.specs.WellFormed.{IsWellFormed};
-ghost use Rattle.vf_elaborated.specs.Layout.{value_size, places_from, end_from, IsElement, address_of};
+ghost use Rattle.vf_elaborated.specs.Layout.{IsElement, address_of};
+ghost use Rattle.vf_elaborated.specs.Drivers.{driver_widths};
+ghost use Rattle.vf_elaborated.specs.Addresses.{thread_at, driver_at, slot_at, link_at, has_wide, word_count};
 
 use crate::layout::{FRONT_WORDS, PROCESS_WORDS};
+use crate::places::{Places, places_for, slot_size, value_size};
 use crate::{Expr, Instr};
 use sqlite_items::Items;
 use std::alloc::Global;
@@ -73,8 +76,7 @@ pub struct Design {
     pub slots: u32,
     /// How many processes are continuous assignments.
     pub drivers: u32,
-    /// The address of the first word of each signal.
-    places: Items<u32>,
+    places: Places,
 }
 
 // Clauses see the parts as plain data.
@@ -109,8 +111,7 @@ impl Design {
         requires { IsWellFormed (record { top = top; signals = signals; processes = processes; shows = shows; slots = slots; drivers = drivers }) }
         ensures { IfOk result (λ design. design ≡ record { top = top; signals = signals; processes = processes; shows = shows; slots = slots; drivers = drivers }) }
     {
-        let begin = FRONT_WORDS + PROCESS_WORDS * processes.len() as u32;
-        let places = places(alloc, begin, signals.as_slice())?;
+        let places = places_for(alloc, signals.as_slice(), processes.as_slice(), slots)?;
         Ok(Design {
             top,
             signals,
@@ -128,27 +129,58 @@ impl Design {
         ensures { result ≡ address_of self.now sig.0 element }
     {
         let signal = &self.signals.as_slice()[sig.0 as usize];
-        self.places.as_slice()[sig.0 as usize] + element * value_size(signal.width)
+        self.places.signals.as_slice()[sig.0 as usize] + element * value_size(signal.width)
     }
-}
 
-/// How many words a value of a width has.
-fn value_size(width: u32) -> u32
-    ensures { result ≡ value_size width }
-{
-    if 64 < width { 4 } else { 2 }
-}
-
-/// The first word of each signal, the first signal at an address.
-fn places(alloc: Global, begin: u32, signals: &[Signal]) -> Result<Items<u32>, Memory>
-    requires few { end_from begin signals.now < 2 ^ 32 }
-    ensures { IfOk result (λ places. places ≡ places_from begin signals.now) }
-{
-    let mut places = Items::new(alloc);
-    let mut at = begin;
-    for signal in signals {
-        places.push(at)?;
-        at += signal.elements * value_size(signal.width);
+    /// The address of the first word of a process, in words from 0: its place. Its status, link and time follow.
+    pub fn thread_at(&self, process: u32) -> u32
+        requires { process < length self.now.processes }
+        ensures { result ≡ thread_at process }
+    {
+        // A design has few processes.
+        let _count = self.processes.len();
+        FRONT_WORDS + PROCESS_WORDS * process
     }
-    Ok(places)
+
+    /// The address of the first word of a driver, in words from 0.
+    pub fn driver_at(&self, driver: u32) -> u32
+        requires { driver < length (driver_widths self.now) }
+        ensures { result ≡ driver_at self.now driver }
+    {
+        self.places.drivers.as_slice()[driver as usize]
+    }
+
+    /// The address of the first word of an event slot, in words from 0: its kind.
+    pub fn slot_at(&self, slot: u32) -> u32
+        requires { slot < self.now.slots }
+        ensures { result ≡ slot_at self.now slot }
+    {
+        self.places.slots + slot_size(self.places.wide) * slot
+    }
+
+    /// The address of the link of an event, by its number: the processes are numbered first, then the slots.
+    pub fn link_at(&self, number: u32) -> u32
+        requires { number < length self.now.processes + self.now.slots }
+        ensures { result ≡ link_at self.now number }
+    {
+        let processes = self.processes.len() as u32;
+        if number < processes {
+            return self.thread_at(number) + 2;
+        }
+        self.slot_at(number - processes) + 1
+    }
+
+    /// Whether some signal is above 64 bits, so that a slot has four words for its value, and not two.
+    pub fn has_wide(&self) -> bool
+        ensures { result ≡ has_wide self.now }
+    {
+        self.places.wide
+    }
+
+    /// How many words a state has: whole pages.
+    pub fn word_count(&self) -> u32
+        ensures { result ≡ word_count self.now }
+    {
+        self.places.words
+    }
 }

@@ -11,6 +11,7 @@ mod design;
 mod expr;
 pub mod laws;
 pub mod layout;
+mod places;
 
 pub use code::{Edge, Event, Instr, MatchKind, ShowKind, Target, TargetPiece};
 pub use design::{Design, Piece, Process, Show, Signal};

@@ -5,6 +5,7 @@ use Rattle.std.proofs.lemmas.Bool.{false≢true, eq-eqb, ne_eqb, cases_eq, lt-lt
 use Rattle.std.proofs.lemmas.List.{set-get_or, get_or-set_same}
 use Rattle.vf_elaborated.specs.Elaborated.{Elaborated}
 use Rattle.vf_elaborated.specs.Addresses.{has_wide, thread_at, slot_at, link_at, word_count}
+use Rattle.vf_elaborated.proofs.CallerLemmas.{thread_inside, slot_inside, link_of_process, link_of_slot}
 use Rattle.vf_scheduler.specs.State.{State, no_thread, thread_of, Slot, Free, Later, Due, Strobed, Item, of_process, of_slot}
 use Rattle.vf_scheduler.specs.Posting.{is_free, time_in}
 use Rattle.vf_scheduler.specs.Sound.{slot_of}
@@ -13,7 +14,7 @@ use Rattle.vf_layout.specs.Addresses.{HasShape}
 use Rattle.vf_layout.specs.Puts.{put_all}
 use Rattle.vf_layout.specs.Regions.{HasLink, number}
 use Rattle.vf_layout.proofs.Image.{image, thread_changed, slot_changed}
-use Rattle.vf_layout.proofs.StandingLemmas.{image_length, thread_inside, slot_inside}
+use Rattle.vf_layout.proofs.StandingLemmas.{image_length}
 
 -- links with one that is another
 abbrev pub reset : (ℕ → ℕ) → ℕ → ℕ → ℕ → ℕ
@@ -32,18 +33,7 @@ is_reset links others n word here same =
     (λ m.
     ⊎_elim (λ e. ap others e ∙ here ∙ sym (reset_here links n word) ∙ ap (reset links n word) (sym e)) (λ other. same m other ∙ sym (reset_other links n word m other)) (cases_eq m n))
 
--- ---- where the link stands
-
-pub link_of_process : (d : Elaborated) (p : ℕ) → p < length d.processes → link_at d p ≡ thread_at p + 2
-unfolding link_at
-link_of_process d p below = ap (λ b. if b then thread_at p + 2 else slot_at d (p - length d.processes) + 1) (lt-ltb p (length d.processes) below)
-
-pub link_of_slot : (d : Elaborated) (q : ℕ) → link_at d (length d.processes + q) ≡ slot_at d q + 1
-unfolding link_at
-link_of_slot d q =
-    let n = length d.processes + q in
-    let back : n - length d.processes ≡ q = omega arith in
-    ap (λ b. if b then thread_at n + 2 else slot_at d (n - length d.processes) + 1) (le-ltb n (length d.processes) (omega arith)) ∙ ap (λ q. slot_at d q + 1) back
+-- ---- the link of a slot
 
 slot_relinked : (wide : Bool) (links others : ℕ → ℕ) (n word : ℕ) (slot : Slot) → is_free slot ≡ false → others n ≡ word
     → slot_words wide others (n, slot) ≡ put_all 1 (word ∷ []) (slot_words wide links (n, slot))
@@ -74,7 +64,7 @@ module _ (d : Elaborated) (front : List ℕ) (long : length front ≡ 16) (s : S
       room false = omega arith
 
   inside : (item : Item) → HasLink d s item → link_at d (number d item) < word_count d
-  inside (of_process p) has = omega (arith, link_of_process d p has, thread_inside d s p shape has)
+  inside (of_process p) has = omega (arith, link_of_process d p has, thread_inside d p has)
   inside (of_slot q) has = let size = small (has_wide d) in omega (arith, link_of_slot d q, slot_inside d q has.0, size)
     where
       small : (wide : Bool) → 8 ≤ (if wide then 10 else 8)

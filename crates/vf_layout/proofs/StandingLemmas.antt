@@ -4,7 +4,8 @@ use Rattle.std.proofs.lemmas.List.{length-append, length-replicate, length-map, 
 use Rattle.vf_base.specs.declared.write.TheConstants.{PAGE_WORDS}
 use Rattle.vf_elaborated.specs.Elaborated.{Elaborated}
 use Rattle.vf_elaborated.specs.Layout.{value_size, signals_begin}
-use Rattle.vf_elaborated.specs.Addresses.{has_wide, thread_at, driver_at, slot_at, slot_size, word_count}
+use Rattle.vf_elaborated.specs.Addresses.{has_wide, thread_at, driver_at, slot_at, word_count}
+use Rattle.vf_elaborated.proofs.CallerLemmas.{thread_inside, slots_end, slot_inside}
 use Rattle.vf_scheduler.specs.State.{State, no_thread, thread_of, Free}
 use Rattle.vf_scheduler.specs.Sound.{slot_of}
 use Rattle.vf_scheduler.specs.Words.{front_words, thread_words, slot_words, filled, link_of, words_of}
@@ -64,24 +65,6 @@ module _ (d : Elaborated) (front : List ℕ) (long : length front ≡ 16) (links
 
 -- ---- addresses are inside
 
-slots_end : (d : Elaborated) → slot_at d d.slots ≤ word_count d
-unfolding word_count
-slots_end d = omega arith
-
-pub slot_inside : (d : Elaborated) (q : ℕ) → q < d.slots → slot_at d q + slot_size d ≤ word_count d
-unfolding slot_at
-slot_inside d q below = let ends = slots_end d in let room = more (slot_size d) q d.slots below in omega (arith, ends, room)
-  where
-    more : (size q n : ℕ) → q < n → size * q + size ≤ size * n
-    more size q n below = grind (arith, below)
-
-pub thread_inside : (d : Elaborated) (s : State) (p : ℕ) → HasShape d s → p < length d.processes → thread_at p + 4 ≤ word_count d
-unfolding slot_at
-thread_inside d s p shape below =
-    let ends = slots_end d in
-    let after = values_length (signals_begin d) d.signals s.values shape.values in
-    omega (arith, ends, after, below)
-
 driver_inside : (d : Elaborated) (s : State) (driver : ℕ) → HasShape d s → driver < length s.drivers
     → driver_at d driver + length (own_words (slice_index_or s.drivers driver [])) ≤ word_count d
 unfolding slot_at driver_at
@@ -122,7 +105,7 @@ module _ (d : Elaborated) (s : State) (shape : HasShape d s) where
 
   pub thread_stands : (p : ℕ) → p < length d.processes → ThreadStands d s (words_of d s) p
   thread_stands p below =
-      let inside = thread_inside d s p shape below in
+      let inside = thread_inside d p below in
       let all = stands_by (words_of d s) (thread_words (link_of d s) (p, thread_of s p)) (thread_at p + 0) (thread_same p below) (omega (arith, inside, long)) in
       record {
         place = ap (slice_index (words_of d s)) (omega arith) ∙ all 0 (omega arith);

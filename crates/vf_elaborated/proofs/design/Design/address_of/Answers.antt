@@ -2,6 +2,7 @@ use Rattle.std.proofs.Common.{◌≡◌, ℕ, ◌+◌, ◌*◌, ◌^◌, ◌<◌
 use Rattle.std.specs.Prelude.{slice_index}
 use Rattle.std.proofs.lemmas.Option.{slice_get_read}
 use Rattle.vf_elaborated.specs.declared.design.Signal.{Signal}
+use Rattle.vf_elaborated.specs.declared.places.Places.{Places}
 use Rattle.vf_elaborated.specs.Elaborated.{Elaborated}
 use Rattle.vf_elaborated.specs.Inner.{elaborated_of}
 use Rattle.vf_elaborated.specs.Layout.{IsElement, count_in, width_in, value_size, places_of, address_of}
@@ -34,7 +35,7 @@ module _ (c : goal.After-value_size) where
       omega (arith, inside, few)
 
   place_is : slice_index_or c.as_slice-2.result.now sig 0 ≡ slice_index (places_of d) sig
-  place_is = ap (λ xs. slice_index_or xs sig 0) (c.as_slice-2.ensures ∙ c.self.invariant.1)
+  place_is = ap (λ xs. slice_index_or xs sig 0) (c.as_slice-2.ensures ∙ ap (λ (p : Places). p.signals) c.self.invariant.1)
 
   offset_is : c.args.element * c.value_size.result ≡ c.args.element * value_size signal.width
   offset_is = ap (λ n. c.args.element * n) c.value_size.ensures
@@ -43,7 +44,7 @@ pub bounds-as_slice-sig-2 : goal.bounds-as_slice-sig-2
 bounds-as_slice-sig-2 c =
     let d = elaborated_of c.self.inside in
     let required = subst (λ e. IsElement e c.args.sig.0 c.args.element) (sym c.self.view_is) c.requires in
-    subst (λ n. c.args.sig.0 < n) (sym (ap length (c.as_slice-2.ensures ∙ c.self.invariant.1) ∙ places_length _ d.signals))
+    subst (λ n. c.args.sig.0 < n) (sym (ap length (c.as_slice-2.ensures ∙ ap (λ (p : Places). p.signals) c.self.invariant.1) ∙ places_length _ d.signals))
     (there d.signals c.args.sig.0 c.args.element _ refl required)
 
 pub overflow_mul-result : goal.overflow_mul-result

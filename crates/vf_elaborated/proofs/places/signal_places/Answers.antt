@@ -1,6 +1,6 @@
 use Rattle.std.proofs.Common.{◌*◌, ap, arith}
 use Rattle.vf_elaborated.proofs.LayoutLemmas.{room_left}
-use Rattle.vf_elaborated.proofs.design.places.Goals as goal
+use Rattle.vf_elaborated.proofs.places.signal_places.Goals as goal
 
 pub overflow_mul-at : goal.overflow_mul-at
 overflow_mul-at c =
