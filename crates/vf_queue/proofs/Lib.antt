@@ -1,2 +1,2 @@
-mod Inside
 mod WriteLemmas
+mod ListLemmas

@@ -1,5 +1,5 @@
 -- Writes into a patch, one after the other.
-use Rattle.std.proofs.Common.{◌≡◌, ◌∙◌, ap, subst, sym, ℕ, ◌<◌, List, length, slice_set, OnOk, IsOk, Result, Ok, Err}
+use Rattle.std.proofs.Common.{◌≡◌, ◌∙◌, refl, ap, subst, sym, ℕ, ◌<◌, List, length, slice_set, OnOk, IsOk, Result, Ok, Err}
 use Rattle.std.proofs.lemmas.Bool.{false≢true}
 use Rattle.vf_base.specs.declared.write.Write.{Write}
 use Rattle.vf_machine.specs.Writes.{AllInside, written}
@@ -24,3 +24,6 @@ ok_both (Err e) f p q = tt
 pub when_ok : {T E P : Type 0} (r : Result T E) → IsOk r → OnOk r P → P
 when_ok (Ok x) ok p = p
 when_ok (Err e) ok p = absurd (false≢true ok)
+
+pub no_write : (base : List ℕ) (patch : List Write) → Writes base (λ words. words) patch patch
+no_write base patch = record { words = refl; inside = λ all. all }

@@ -1,4 +1,4 @@
-ghost use Rattle.std.specs.Prelude.{◌≡◌, ◌≢◌, ◌+◌, ◌-◌, ◌<◌, length, slice_index, OnOk, IfOk};
+ghost use Rattle.std.specs.Prelude.{◌≡◌, ◌≢◌, ◌+◌, ◌-◌, ◌<◌, ℕ, List, length, slice_index, slice_set, OnOk, IfOk, if◌then◌else◌, ◌&&◌, ◌==◌};
 ghost use Rattle.vf_machine.specs.Writes.{written};
 ghost use Rattle.vf_elaborated.specs.Addresses.{word_count};
 ghost use Rattle.vf_layout.specs.Regions.{joined, taken, put_first, put_after, moved};
@@ -30,6 +30,16 @@ pub fn join<W: Words>(design: &Design, words: &W, patch: &mut Patch, at: u32, nu
     put_link(design, patch, event(design, tail), to_it)
 }
 
+/// The tail of a list that has one becomes 0 where no event follows.
+fn clear_tail(patch: &mut Patch, at: u32, tailed: bool, next: u64)
+    requires { at + 1 < FRONT }
+    ensures { (base : List ℕ) → at + 1 < length base → Writes base (λ words. if tailed && next == 0 then slice_set words (at + 1) 0 else words) patch.old patch.new }
+{
+    if tailed && next == 0 {
+        put_front(patch, at + 1, 0);
+    }
+}
+
 /// The first event of a list leaves it. Where the list has a tail, it stands in the word after the head.
 pub fn take<W: Words>(design: &Design, words: &W, patch: &mut Patch, at: u32, tailed: bool) -> Result<u32, Memory>
     requires at { at + 1 < FRONT }
@@ -40,9 +50,7 @@ pub fn take<W: Words>(design: &Design, words: &W, patch: &mut Patch, at: u32, ta
 {
     let number = event(design, front(design, words, patch, at));
     let next = link(design, words, patch, number);
-    if tailed && next == 0 {
-        put_front(patch, at + 1, 0);
-    }
+    clear_tail(patch, at, tailed, next);
     put_front(patch, at, next);
     put_link(design, patch, number, 0)?;
     Ok(number)

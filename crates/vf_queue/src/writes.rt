@@ -32,7 +32,7 @@ pub fn link<W: Words>(design: &Design, words: &W, patch: &Patch, number: u32) ->
     requires long { length (W.contents words.now) ≡ word_count design.now }
     ensures { result ≡ slice_index (written (W.contents words.now) patch.now) (addresses.link_at design.now number) }
 {
-    patch.read(words, link_at(design, number))
+    patch.read(words, design.link_at(number))
 }
 
 /// Writes a word of the state.
@@ -47,7 +47,7 @@ pub fn put_link(design: &Design, patch: &mut Patch, number: u32, word: u64) -> R
     requires number { number < item_count design.now }
     ensures { OnOk result ((base : List ℕ) → length base ≡ word_count design.now → Writes base (λ words. slice_set words (addresses.link_at design.now number) word) patch.old patch.new) }
 {
-    put(patch, link_at(design, number), word)
+    put(patch, design.link_at(number), word)
 }
 
 /// The number of the event that a word leads to.
@@ -60,10 +60,3 @@ pub fn event(design: &Design, word: u64) -> u32
     word as u32 - 1
 }
 
-// standing in
-fn link_at(design: &Design, number: u32) -> u32
-    requires { number < item_count design.now }
-    ensures { result ≡ addresses.link_at design.now number }
-{
-    0
-}

@@ -1,5 +1,5 @@
 use Rattle.std.proofs.Common.{arith}
-use Rattle.vf_queue.proofs.Inside.{link_inside}
+use Rattle.vf_elaborated.proofs.CallerLemmas.{link_inside}
 use Rattle.vf_queue.proofs.writes.link.Goals as goal
 
 pub read-requires : goal.read-requires

@@ -1,7 +1,7 @@
 use Rattle.std.proofs.Common.{ap, arith, subst, slice_set}
 use Rattle.std.proofs.lemmas.Result.{on_ok_weaker}
 use Rattle.vf_queue.specs.Writing.{Writes}
-use Rattle.vf_queue.proofs.Inside.{link_inside}
+use Rattle.vf_elaborated.proofs.CallerLemmas.{link_inside}
 use Rattle.vf_queue.proofs.writes.put_link.Goals as goal
 
 pub returns : goal.returns
