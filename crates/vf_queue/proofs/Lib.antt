@@ -1,2 +1,4 @@
 mod WriteLemmas
 mod ListLemmas
+mod HoldLemmas
+mod ThreadLemmas

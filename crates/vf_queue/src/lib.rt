@@ -3,4 +3,5 @@
 
 mod addresses;
 mod lists;
+mod threads;
 mod writes;
