@@ -8,3 +8,7 @@ pub use Rattle.vf_layout.proofs.SoundLemmas.{sound_written}
 pub use Rattle.vf_layout.proofs.PutLemmas.{length-put_all, put_all_before, put_all_read}
 -- what the operations on a list write, by what its ends are
 pub use Rattle.vf_layout.proofs.Queueing.{joined_empty, joined_more, taken_by}
+-- a list has no more events than have numbers
+pub use Rattle.vf_layout.proofs.FewLemmas.{numbered_below, few_events}
+-- the numbers of events in lists
+pub use Rattle.vf_layout.proofs.Lists.{numbers-append, has_link}

@@ -13,5 +13,6 @@ mod Counts
 mod Lists
 mod Queueing
 mod FutureLemmas
+mod FewLemmas
 mod SoundLemmas
 pub mod CallerLemmas

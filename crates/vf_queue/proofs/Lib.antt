@@ -2,3 +2,4 @@ mod WriteLemmas
 mod ListLemmas
 mod HoldLemmas
 mod ThreadLemmas
+mod FutureLemmas

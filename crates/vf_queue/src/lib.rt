@@ -2,6 +2,7 @@
 #![tactic(auto)]
 
 mod addresses;
+mod future;
 mod lists;
 mod threads;
 mod writes;

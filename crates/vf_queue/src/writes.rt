@@ -35,6 +35,17 @@ pub fn link<W: Words>(design: &Design, words: &W, patch: &Patch, number: u32) ->
     patch.read(words, design.link_at(number))
 }
 
+/// The time of an event of the future. It stands after the link.
+pub fn time<W: Words>(design: &Design, words: &W, patch: &Patch, number: u32) -> u64
+    requires number { number < item_count design.now }
+    requires long { length (W.contents words.now) ≡ word_count design.now }
+    ensures { result ≡ slice_index (written (W.contents words.now) patch.now) (addresses.link_at design.now number + 1) }
+{
+    // The addresses fit, since a design has few words.
+    let _processes = &design.processes;
+    patch.read(words, design.link_at(number) + 1)
+}
+
 /// Writes a word of the state.
 pub fn put(patch: &mut Patch, at: u32, word: u64) -> Result<(), Memory>
     ensures { OnOk result ((base : List ℕ) → at < length base → Writes base (λ words. slice_set words at word) patch.old patch.new) }
