@@ -54,3 +54,18 @@ module _ (d : Elaborated) (s : State) (p : ℕ) (sound : IsSound d s) (running :
       ∙ (ap (λ words. slice_set (slice_set words (thread_at p + 1) (status_word status)) (thread_at p + 3) (time_in status)) first
       ∙ (ap (λ word. slice_set later (thread_at p + 3) word) (sym time) ∙ set-get_or later (thread_at p + 3) 0)) in
       (front_written d (put_thread p thread s)).running None ∙ ap (λ words. slice_set words RUNNING 0) put
+
+  -- where it goes to another place, and its status may have a time
+  pub leaves_for : (place : ℕ) (status : Status) (to word time at : ℕ) → to ≡ place → status_word status ≡ word → time_in status ≡ time → at ≡ thread_at p
+      → words_of d (leaves p place status s) ≡ slice_set (slice_set (slice_set (slice_set (words_of d s) at to) (at + 1) word) (at + 3) time) RUNNING 0
+  leaves_for place status to word time at place_is word_is time_is at_is =
+      let thread : Thread = record { place = place; status = status } in
+      let put = ((changes_written d s shape).threads p is_there).thread thread in
+      let words = words_of d s in
+      (front_written d (put_thread p thread s)).running None
+      ∙ ap (λ words. slice_set words RUNNING 0)
+      (put
+      ∙ (ap (λ at. slice_set (slice_set (slice_set words at place) (at + 1) (status_word status)) (at + 3) (time_in status)) (sym at_is)
+      ∙ (ap (λ to. slice_set (slice_set (slice_set words at to) (at + 1) (status_word status)) (at + 3) (time_in status)) (sym place_is)
+      ∙ (ap (λ word. slice_set (slice_set (slice_set words at to) (at + 1) word) (at + 3) (time_in status)) word_is
+      ∙ ap (λ time. slice_set (slice_set (slice_set words at to) (at + 1) word) (at + 3) time) time_is))))

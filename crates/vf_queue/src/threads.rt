@@ -38,6 +38,21 @@ pub fn halt(design: &Design, patch: &mut Patch, process: u32) -> Result<(), Memo
     rest(design, patch, process, HALTED)
 }
 
+/// The running process leaves for a place, in a status with a time.
+pub fn leave(design: &Design, patch: &mut Patch, process: u32, place: u32, word: u64, time: u64) -> Result<(), Memory>
+    requires { process < length design.now.processes }
+    ensures { OnOk result ((base : List ℕ) (s : State) (status : Status) → status_word status ≡ word → time_in status ≡ time
+        → IsSound design.now s → s.running ≡ Some process
+        → Holds design.now base patch.old s → Holds design.now base patch.new (leaves process place status s)) }
+{
+    let at = design.thread_at(process);
+    put(patch, at, u64::from(place))?;
+    put(patch, at + 1, word)?;
+    put(patch, at + 3, time)?;
+    put_front(patch, RUNNING, 0);
+    Ok(())
+}
+
 /// The running process stays at its place, in a status that has no time.
 fn rest(design: &Design, patch: &mut Patch, process: u32, word: u64) -> Result<(), Memory>
     requires { process < length design.now.processes }
