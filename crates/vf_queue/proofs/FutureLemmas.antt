@@ -87,7 +87,7 @@ module _ (d : Elaborated) (s : State) (at : ℕ) where
     pub is : x ∷ passed ≡ before ++ other ∷ []
     pub numbered : tail (numbers d s (x ∷ passed)) ≡ Some (number d other)
 
-  last_of : (x : Item) (passed : List Item) → Last x passed
+  pub last_of : (x : Item) (passed : List Item) → Last x passed
   last_of x [] = record { before = []; other = x; is = refl; numbered = refl }
   last_of x (y ∷ passed) =
       let later = last_of y passed in

@@ -3,3 +3,5 @@ mod ListLemmas
 mod HoldLemmas
 mod ThreadLemmas
 mod FutureLemmas
+mod KeptLemmas
+mod DelayLemmas

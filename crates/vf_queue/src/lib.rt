@@ -2,6 +2,7 @@
 #![tactic(auto)]
 
 mod addresses;
+mod delays;
 mod future;
 mod lists;
 mod threads;
