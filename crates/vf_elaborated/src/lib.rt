@@ -11,7 +11,9 @@ mod design;
 mod expr;
 pub mod laws;
 pub mod layout;
+mod lists;
 mod places;
+mod tables;
 
 pub use code::{Edge, Event, Instr, MatchKind, ShowKind, Target, TargetPiece};
 pub use design::{Design, Piece, Process, Show, Signal};
