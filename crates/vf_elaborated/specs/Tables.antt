@@ -1,4 +1,4 @@
--- Which processes wait for a signal, and which drive a net (docs/LANGUAGE.md, "The scheduler"; IEEE Std 1364-2005, 6.1 and 9.7).
+-- Which processes wait for a signal, and which drive a net (docs/LANGUAGE.md, "Elaborated designs"; IEEE Std 1364-2005, 6.1 and 9.7).
 use Rattle.std.specs.Prelude.{ℕ, ◌+◌, Bool, false, ◌&&◌, ◌==◌, List, [], ◌∷◌, Option, Some, None, if◌then◌else◌, is_some}
 use Rattle.std.specs.List.{list_any}
 use Rattle.vf_elaborated.specs.declared.design.Process.{Process}

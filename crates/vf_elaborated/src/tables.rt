@@ -1,4 +1,4 @@
-//! Which processes wait for each signal, and which drive each net (docs/LANGUAGE.md, "The tables of a design").
+//! Which processes wait for each signal, and which drive each net (docs/LANGUAGE.md, "Elaborated designs").
 ghost use Rattle.std.specs.Prelude.{◌≡◌, ◌<◌, ◌^◌, length, IfOk, OnOk};
 ghost use Rattle.std.specs.List.{list_any};
 ghost use Rattle.vf_elaborated.specs.Values.{reads_signal};
