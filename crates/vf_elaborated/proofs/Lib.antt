@@ -4,4 +4,8 @@ mod Shaped
 mod LayoutLemmas
 mod Sums
 mod AddressLemmas
+mod NoteLemmas
+mod WakeLemmas
+mod ReadsLemmas
+mod TableLemmas
 pub mod CallerLemmas

@@ -9,5 +9,6 @@ pub mod Drivers
 pub mod Addresses
 pub mod Places
 pub mod Tables
+pub mod Noting
 pub mod Inner
 pub mod Laws

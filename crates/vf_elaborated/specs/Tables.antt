@@ -1,4 +1,4 @@
--- Which processes wait for a signal, and which drive a net (docs/LANGUAGE.md, "The scheduler"; IEEE Std 1364-2005, 6.1 and 9.7).
+-- Which processes wait for a signal, and which drive a net (docs/LANGUAGE.md, "Elaborated designs"; IEEE Std 1364-2005, 6.1 and 9.7).
 use Rattle.std.specs.Prelude.{ℕ, ◌+◌, Bool, false, ◌&&◌, ◌==◌, List, [], ◌∷◌, Option, Some, None, if◌then◌else◌, is_some}
 use Rattle.std.specs.List.{list_any}
 use Rattle.vf_elaborated.specs.declared.design.Process.{Process}
@@ -18,7 +18,7 @@ numbers_from test n (x ∷ rest) = if test x then n ∷ numbers_from test (n + 1
 
 -- ---- who waits
 
-abbrev pub is_event_on : ℕ → Event → Bool
+unfoldable pub is_event_on : ℕ → Event → Bool
 is_event_on sig event = event.sig.0 == sig
 
 -- An instruction that a change of a signal may wake: an event control with an event of the signal (9.7.2), a `wait` (9.7.6) and a continuous
@@ -39,7 +39,7 @@ watchers_of d sig = numbers_from (may_wait sig) 0 d.processes
 
 -- ---- who drives
 
-abbrev pub is_piece_on : ℕ → TargetPiece → Bool
+unfoldable pub is_piece_on : ℕ → TargetPiece → Bool
 is_piece_on net piece = piece.sig.0 == net
 
 abbrev pub names_net : ℕ → Option Target → Bool

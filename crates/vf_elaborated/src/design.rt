@@ -1,13 +1,17 @@
 ghost use Rattle.std.specs.Prelude.{◌≡◌, ◌<◌, ◌+◌, length, IfOk};
+ghost use Rattle.std.specs.Option.{option_map};
 ghost use Rattle.vf_elaborated.specs.Elaborated.{Elaborated};
 ghost use Rattle.vf_elaborated.specs.WellFormed.{IsWellFormed};
 ghost use Rattle.vf_elaborated.specs.Layout.{IsElement, address_of};
-ghost use Rattle.vf_elaborated.specs.Drivers.{driver_widths};
+ghost use Rattle.vf_elaborated.specs.Drivers.{target_of, driver_widths};
 ghost use Rattle.vf_elaborated.specs.Addresses.{thread_at, driver_at, slot_at, link_at, has_wide, word_count};
+ghost use Rattle.vf_elaborated.specs.Tables.{watchers_of, drivers_of};
 
 use crate::layout::{FRONT_WORDS, PROCESS_WORDS};
+use crate::lists::Lists;
 use crate::places::{Places, places_for, slot_size, value_size};
-use crate::{Expr, Instr};
+use crate::tables::{drivers_by_net, watchers};
+use crate::{Expr, Instr, Target};
 use sqlite_items::Items;
 use std::alloc::Global;
 use std::marker::Model;
@@ -41,6 +45,18 @@ pub struct Process {
     pub code: Items<Instr>,
     /// The number of its driver, where it is a continuous assignment.
     pub driver: Option<u32>,
+}
+
+impl Process {
+    /// What it drives, where it is a continuous assignment.
+    pub fn target(&self) -> Option<&Target>
+        ensures { option_map (λ target. target.now) result ≡ target_of self.now }
+    {
+        match self.code.as_slice() {
+            [Instr::Drive(target, _), ..] => Some(target),
+            _ => None,
+        }
+    }
 }
 
 /// A part of what a task prints (clause 17.1.1).
@@ -77,6 +93,10 @@ pub struct Design {
     /// How many processes are continuous assignments.
     pub drivers: u32,
     places: Places,
+    /// The processes that can wait for each signal.
+    waiting: Lists,
+    /// The processes that drive each net.
+    driving: Lists,
 }
 
 // Clauses see the parts as plain data.
@@ -112,6 +132,8 @@ impl Design {
         ensures { IfOk result (λ design. design ≡ record { top = top; signals = signals; processes = processes; shows = shows; slots = slots; drivers = drivers }) }
     {
         let places = places_for(alloc, signals.as_slice(), processes.as_slice(), slots)?;
+        let waiting = watchers(alloc, signals.len(), processes.as_slice())?;
+        let driving = drivers_by_net(alloc, signals.len(), processes.as_slice())?;
         Ok(Design {
             top,
             signals,
@@ -120,6 +142,8 @@ impl Design {
             slots,
             drivers,
             places,
+            waiting,
+            driving,
         })
     }
 
@@ -168,6 +192,23 @@ impl Design {
             return self.thread_at(number) + 2;
         }
         self.slot_at(number - processes) + 1
+    }
+
+    /// The processes that can wait for a signal, in number order: by an event control on it, or by a `wait` or a continuous assignment
+    /// whose expression reads it (clauses 6.1, 9.7.2 and 9.7.6).
+    pub fn watchers(&self, sig: SigNo) -> &[u32]
+        requires { sig.0 < length self.now.signals }
+        ensures { result.now ≡ watchers_of self.now sig.0 }
+    {
+        self.waiting.at(sig.0 as usize)
+    }
+
+    /// The processes that drive a net, in number order (clause 6.1).
+    pub fn drivers_of(&self, net: SigNo) -> &[u32]
+        requires { net.0 < length self.now.signals }
+        ensures { result.now ≡ drivers_of self.now net.0 }
+    {
+        self.driving.at(net.0 as usize)
     }
 
     /// Whether some signal is above 64 bits, so that a slot has four words for its value, and not two.

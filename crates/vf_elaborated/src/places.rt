@@ -1,4 +1,4 @@
-//! The addresses that a design keeps, so that each is found at once (docs/LANGUAGE.md, "The words of a state").
+//! The addresses that a design keeps, so that each is found at once (docs/LANGUAGE.md, "The scheduler").
 ghost use Rattle.std.specs.Prelude.{◌≡◌, ◌+◌, ◌*◌, ◌<◌, ◌≤◌, ◌^◌, [], if◌then◌else◌, IfOk};
 ghost use Rattle.std.specs.List.{All, list_any, sum_by};
 ghost use Rattle.vf_elaborated.specs.Shapes.{WIDEST};
@@ -9,7 +9,7 @@ ghost use Rattle.vf_elaborated.specs.Addresses.{is_wide, slots_begin};
 ghost use Rattle.vf_elaborated.specs.Places.{starts_from, places_for, laid};
 
 use crate::layout::{FRONT_WORDS, PROCESS_WORDS};
-use crate::{Instr, Process, Signal, Target};
+use crate::{Process, Signal, Target};
 use sqlite_items::Items;
 use std::alloc::Global;
 use vf_base::{Memory, PAGE_WORDS};
@@ -117,9 +117,9 @@ fn driver_width(process: &Process) -> u32
     requires { width_of (target_of process.now) ≤ WIDEST }
     ensures { result ≡ width_of (target_of process.now) }
 {
-    match process.code.as_slice() {
-        [Instr::Drive(target, _), ..] => target_width(target),
-        _ => 0,
+    match process.target() {
+        Some(target) => target_width(target),
+        None => 0,
     }
 }
 

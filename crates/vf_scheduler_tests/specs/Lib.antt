@@ -9,3 +9,4 @@ pub mod Wide
 pub mod Cases
 pub mod Mix
 pub mod Formed
+pub mod Watching

@@ -12,6 +12,7 @@ ghost use Rattle.vf_scheduler_tests.specs.Wide.{WideRuns};
 ghost use Rattle.vf_scheduler_tests.specs.Mix.{MixRuns};
 ghost use Rattle.vf_scheduler_tests.specs.Cases.{CasesAre};
 ghost use Rattle.vf_scheduler_tests.specs.Formed.{FormedAsSaid};
+ghost use Rattle.vf_scheduler_tests.specs.Watching.{TablesAre};
 
 /// Nonblocking assignments, a delay of 0 and a delay.
 pub fn swap()
@@ -56,4 +57,9 @@ pub fn formed()
 /// Single rules: delays, rounds, descriptors, edges, cases, parts and the future.
 pub fn cases()
     ensures { CasesAre }
+{}
+
+/// Who waits for each signal, who drives each net, and where the words stand.
+pub fn watching()
+    ensures { TablesAre }
 {}

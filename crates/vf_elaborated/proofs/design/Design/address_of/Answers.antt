@@ -31,11 +31,11 @@ module _ (c : goal.After-value_size) where
   small : slice_index (places_of d) sig + (c.args.element * value_size signal.width + value_size signal.width) < 2 ^ 32
   small =
       let inside = address_small d sig c.args.element signal signal_is (subst (λ o. c.args.element < count_in o) signal_is required) in
-      let few = drivers_small d c.self.invariant.0 in
+      let few = drivers_small d c.self.invariant.formed in
       omega (arith, inside, few)
 
   place_is : slice_index_or c.as_slice-2.result.now sig 0 ≡ slice_index (places_of d) sig
-  place_is = ap (λ xs. slice_index_or xs sig 0) (c.as_slice-2.ensures ∙ ap (λ (p : Places). p.signals) c.self.invariant.1)
+  place_is = ap (λ xs. slice_index_or xs sig 0) (c.as_slice-2.ensures ∙ ap (λ (p : Places). p.signals) c.self.invariant.places)
 
   offset_is : c.args.element * c.value_size.result ≡ c.args.element * value_size signal.width
   offset_is = ap (λ n. c.args.element * n) c.value_size.ensures
@@ -44,7 +44,7 @@ pub bounds-as_slice-sig-2 : goal.bounds-as_slice-sig-2
 bounds-as_slice-sig-2 c =
     let d = elaborated_of c.self.inside in
     let required = subst (λ e. IsElement e c.args.sig.0 c.args.element) (sym c.self.view_is) c.requires in
-    subst (λ n. c.args.sig.0 < n) (sym (ap length (c.as_slice-2.ensures ∙ ap (λ (p : Places). p.signals) c.self.invariant.1) ∙ places_length _ d.signals))
+    subst (λ n. c.args.sig.0 < n) (sym (ap length (c.as_slice-2.ensures ∙ ap (λ (p : Places). p.signals) c.self.invariant.places) ∙ places_length _ d.signals))
     (there d.signals c.args.sig.0 c.args.element _ refl required)
 
 pub overflow_mul-result : goal.overflow_mul-result

@@ -13,12 +13,12 @@ bounds-as_slice-driver c =
     let d = elaborated_of c.self.inside in
     let required = subst (λ (e : Elaborated). c.args.driver < length (driver_widths e)) (sym c.self.view_is) c.requires in
     subst (λ n. c.args.driver < n)
-    (sym (ap length (c.as_slice.ensures ∙ ap (λ (p : Places). p.drivers) c.self.invariant.1) ∙ starts_length (drivers_begin d) (driver_widths d))) required
+    (sym (ap length (c.as_slice.ensures ∙ ap (λ (p : Places). p.drivers) c.self.invariant.places) ∙ starts_length (drivers_begin d) (driver_widths d))) required
 
 pub returns : goal.returns
 unfolding driver_at
 returns c =
     let d = elaborated_of c.self.inside in
     let required = subst (λ (e : Elaborated). c.args.driver < length (driver_widths e)) (sym c.self.view_is) c.requires in
-    ap (λ xs. slice_index_or xs c.args.driver 0) (c.as_slice.ensures ∙ ap (λ (p : Places). p.drivers) c.self.invariant.1)
+    ap (λ xs. slice_index_or xs c.args.driver 0) (c.as_slice.ensures ∙ ap (λ (p : Places). p.drivers) c.self.invariant.places)
     ∙ start_is (drivers_begin d) (driver_widths d) c.args.driver required ∙ ap (λ e. driver_at e c.args.driver) c.self.view_is

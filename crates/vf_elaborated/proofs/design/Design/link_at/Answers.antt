@@ -24,7 +24,7 @@ pub overflow_add-result-2 : goal.overflow_add-result-2
 overflow_add-result-2 c =
     let d = elaborated_of c.self.inside in
     let required = subst (λ (e : Elaborated). c.args.number < length e.processes + e.slots) (sym c.self.view_is) c.requires in
-    omega (arith, at_is c, link_inside d c.args.number required, words_small d c.self.invariant.0)
+    omega (arith, at_is c, link_inside d c.args.number required, words_small d c.self.invariant.formed)
 
 pub returns : goal.returns
 returns c = at_is c ∙ ap (λ e. link_at e c.args.number) c.self.view_is

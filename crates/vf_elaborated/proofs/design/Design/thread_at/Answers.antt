@@ -8,10 +8,10 @@ pub overflow_mul-result : goal.overflow_mul-result
 overflow_mul-result c =
     let d = elaborated_of c.self.inside in
     let required = subst (λ (e : Elaborated). c.args.process < length e.processes) (sym c.self.view_is) c.requires in
-    omega (arith, thread_inside d c.args.process required, words_small d c.self.invariant.0)
+    omega (arith, thread_inside d c.args.process required, words_small d c.self.invariant.formed)
 
 pub overflow_add-result : goal.overflow_add-result
 overflow_add-result c =
     let d = elaborated_of c.self.inside in
     let required = subst (λ (e : Elaborated). c.args.process < length e.processes) (sym c.self.view_is) c.requires in
-    omega (arith, thread_inside d c.args.process required, words_small d c.self.invariant.0)
+    omega (arith, thread_inside d c.args.process required, words_small d c.self.invariant.formed)
