@@ -1,8 +1,8 @@
 -- What is written where the running process is put off.
-use Rattle.std.proofs.Common.{◌≡◌, ◌≢◌, ◌==◌, ℕ, ◌+◌, ◌^◌, ◌<◌, ◌≤◌, List, [], ◌∷◌, ◌++◌, length, Option, Some, None, refl, sym, ◌∙◌, ap, arith, IfSome, if◌then◌else◌}
+use Rattle.std.proofs.Common.{◌≡◌, ◌≢◌, ℕ, ◌+◌, ◌^◌, ◌<◌, ◌≤◌, [], ◌∷◌, ◌++◌, length, Option, Some, None, refl, sym, ◌∙◌, ap, arith, IfSome, if◌then◌else◌}
 use Rattle.std.proofs.lemmas.Bool.{eq-eqb, ne_eqb, le-leb, lt-leb}
 use Rattle.vf_base.specs.declared.run.Ending.TheVariants as endings
-use Rattle.vf_machine.specs.Machine.{Move, go, stop}
+use Rattle.vf_machine.specs.Machine.{go, stop}
 use Rattle.vf_elaborated.specs.Elaborated.{Elaborated}
 use Rattle.vf_elaborated.specs.Addresses.{INACTIVE}
 use Rattle.vf_scheduler.specs.State.{State, Status, Inactive, Future, Item, of_process, leaves}
@@ -10,7 +10,7 @@ use Rattle.vf_scheduler.specs.Posting.{time_of, put_by_time, is_too_late, joins_
 use Rattle.vf_scheduler.specs.Sound.{times, events, listed, IsSound}
 use Rattle.vf_scheduler.specs.Words.{words_of}
 use Rattle.vf_scheduler.proofs.CallerLemmas.{times-append, times_here}
-use Rattle.vf_layout.specs.Regions.{InactiveRegion, FutureRegion, number, joined, put_after, RegionChanges}
+use Rattle.vf_layout.specs.Regions.{InactiveRegion, FutureRegion, joined, put_after, RegionChanges}
 use Rattle.vf_layout.specs.Laws.{IsWritten}
 use Rattle.vf_layout.proofs.CallerLemmas.{sound_written, regions_written, has_link, numbered_below}
 use Rattle.vf_queue.specs.Writing.{item_count}

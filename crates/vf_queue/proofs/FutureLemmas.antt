@@ -1,23 +1,22 @@
 -- Where an event of a time joins the future.
-use Rattle.std.proofs.Common.{◌≡◌, ◌≢◌, ℕ, suc, ◌+◌, ◌-◌, ◌<◌, ◌≤◌, Bool, true, false, List, [], ◌∷◌, ◌++◌, length, Option, Some, None, refl, sym, ◌∙◌, ap, subst, arith, ⊎_elim, if◌then◌else◌, nat_lt, slice_index}
+use Rattle.std.proofs.Common.{◌≡◌, ◌≢◌, ℕ, ◌+◌, ◌-◌, ◌<◌, ◌≤◌, Bool, true, false, List, [], ◌∷◌, ◌++◌, length, Option, Some, None, refl, sym, ◌∙◌, ap, subst, arith, ⊎_elim, if◌then◌else◌, slice_index}
 use Rattle.std.proofs.lemmas.Bool.{cases_lt, lt-ltb, le-ltb}
 use Rattle.std.proofs.lemmas.List.{append_assoc, length-append}
-use Rattle.std.proofs.lemmas.Option.{same_Some}
 use Rattle.std.proofs.lemmas.List.Elements.{All-nil, All-cons, All-head, All-tail, All-append}
 use Rattle.std.specs.List.{All}
 use Rattle.vf_elaborated.specs.Elaborated.{Elaborated}
-use Rattle.vf_elaborated.specs.Addresses.{FUTURE, thread_at, slot_at, slot_size, link_at, has_wide, word_count}
+use Rattle.vf_elaborated.specs.Addresses.{FUTURE, thread_at, slot_at, link_at, has_wide, word_count}
 use Rattle.vf_elaborated.proofs.CallerLemmas.{thread_inside, slot_inside, link_of_process, link_beyond, link_of_slot}
-use Rattle.vf_scheduler.specs.State.{State, Thread, Slot, Free, Later, Due, Strobed, Item, of_process, of_slot, thread_of}
+use Rattle.vf_scheduler.specs.State.{State, Slot, Free, Later, Due, Strobed, Item, of_process, of_slot}
 use Rattle.vf_scheduler.specs.Posting.{time_of, slot_time, put_by_time}
-use Rattle.vf_scheduler.specs.Sound.{times, events, slot_of, IsSound}
+use Rattle.vf_scheduler.specs.Sound.{times, slot_of, IsSound}
 use Rattle.vf_scheduler.specs.Words.{link, head, tail, numbers, slot_words, link_of, words_of}
 use Rattle.vf_layout.specs.Addresses.{HasShape}
 use Rattle.vf_layout.specs.Regions.{FutureRegion, HasLink, number}
 use Rattle.vf_scheduler.proofs.CallerLemmas.{times-append, times_here}
-use Rattle.vf_layout.proofs.CallerLemmas.{words_standing, regions_written, sound_written, numbers-append, has_link, numbered_below, few_events}
+use Rattle.vf_layout.proofs.CallerLemmas.{words_standing, regions_written, sound_written, has_link, numbered_below, few_events}
 use Rattle.vf_queue.specs.Writing.{item_count, Leads}
-use Rattle.vf_queue.specs.Future.{Follows, IsLastUntil}
+use Rattle.vf_queue.specs.Future.{IsLastUntil}
 
 -- ---- the time of an event
 

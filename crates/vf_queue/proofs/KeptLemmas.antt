@@ -1,20 +1,19 @@
 -- What a state in the middle of an operation keeps, and how its lists end.
-use Rattle.std.proofs.Common.{◌≡◌, ◌≢◌, ℕ, ◌+◌, ◌<◌, ◌≤◌, Bool, true, false, List, [], ◌∷◌, ◌++◌, length, Option, Some, None, refl, sym, ◌∙◌, ap, ap₂, subst, arith, ⊎_elim, if◌then◌else◌, nat_lt, slice_index, slice_index_or}
+use Rattle.std.proofs.Common.{◌≡◌, ◌≢◌, ℕ, ◌+◌, ◌≤◌, true, List, [], ◌∷◌, refl, ◌∙◌, ap, ap₂, arith, if◌then◌else◌, nat_lt, slice_index}
 use Rattle.std.proofs.lemmas.List.{length-set, get_or-set_other}
 use Rattle.std.proofs.lemmas.Bool.{false≢true}
 use Rattle.vf_elaborated.specs.Elaborated.{Elaborated}
-use Rattle.vf_scheduler.specs.State.{State, Status, Thread, Item, of_process, of_slot, thread_of, no_thread, leaves}
+use Rattle.vf_scheduler.specs.State.{State, Status, Thread, Item, of_process, of_slot, no_thread, leaves}
 use Rattle.vf_scheduler.specs.Posting.{time_of, time_in, put_by_time}
-use Rattle.vf_scheduler.specs.Sound.{times, events, IsSound}
+use Rattle.vf_scheduler.specs.Sound.{times}
 use Rattle.vf_scheduler.specs.Words.{link, head, tail, numbers, words_of}
 use Rattle.vf_scheduler.proofs.CallerLemmas.{times-append, times_here}
-use Rattle.vf_layout.specs.Addresses.{HasShape}
 use Rattle.vf_layout.specs.Standing.{EndsStand}
-use Rattle.vf_layout.specs.Regions.{Region, ActiveRegion, InactiveRegion, NonblockingRegion, FutureRegion, StrobeRegion, list_in, head_at, has_tail, HasLink, number, IsQueued}
+use Rattle.vf_layout.specs.Regions.{Region, ActiveRegion, InactiveRegion, NonblockingRegion, FutureRegion, StrobeRegion, list_in, head_at, has_tail, HasLink, number}
 use Rattle.vf_layout.specs.Laws.{IsWritten}
 use Rattle.vf_layout.proofs.CallerLemmas.{words_standing, numbered_below, has_link}
 use Rattle.vf_queue.specs.Writing.{HasTail, Leads}
-use Rattle.vf_queue.proofs.FutureLemmas.{Last, last_of}
+use Rattle.vf_queue.proofs.FutureLemmas.{last_of}
 
 -- ---- how a list ends
 

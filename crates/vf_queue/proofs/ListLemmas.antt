@@ -1,6 +1,5 @@
 -- The writes of an operation on a list, put together.
-use Rattle.std.proofs.Common.{◌≡◌, ◌≢◌, ◌+◌, ◌-◌, ◌<◌, ◌≤◌, ◌&&◌, ◌==◌, ℕ, zero, suc, Bool, true, false, List, refl, sym, ◌∙◌, ap, ap₂, subst, arith, if◌then◌else◌, slice_index, slice_set}
-use Rattle.std.proofs.lemmas.Bool.{ne_eqb}
+use Rattle.std.proofs.Common.{◌≡◌, ◌≢◌, ◌+◌, ◌-◌, ◌<◌, ◌≤◌, ◌&&◌, ◌==◌, ℕ, zero, suc, Bool, List, refl, sym, ◌∙◌, ap, ap₂, arith, if◌then◌else◌, slice_index, slice_set}
 use Rattle.vf_base.specs.declared.write.Write.{Write}
 use Rattle.vf_machine.specs.Writes.{written}
 use Rattle.vf_elaborated.specs.Elaborated.{Elaborated}

@@ -1,5 +1,5 @@
 -- What is written where the running process goes on, or runs no more.
-use Rattle.std.proofs.Common.{◌≡◌, ℕ, ◌+◌, ◌<◌, Bool, true, false, List, length, Option, Some, None, refl, sym, ◌∙◌, ap, subst, arith, ⊎_elim, slice_index, slice_set}
+use Rattle.std.proofs.Common.{◌≡◌, ℕ, ◌+◌, ◌<◌, true, length, Some, None, refl, sym, ◌∙◌, ap, arith, ⊎_elim, slice_index, slice_set}
 use Rattle.std.proofs.lemmas.Bool.{false≢true, eq-eqb, cases_lt}
 use Rattle.std.proofs.lemmas.List.{set-get_or, get_or-set_other, get_or_past}
 use Rattle.vf_elaborated.specs.Elaborated.{Elaborated}
@@ -9,7 +9,6 @@ use Rattle.vf_scheduler.specs.Posting.{time_in}
 use Rattle.vf_scheduler.specs.Sound.{IsSound, is_running, names}
 use Rattle.vf_scheduler.specs.Words.{status_word, words_of}
 use Rattle.vf_layout.specs.Addresses.{HasShape}
-use Rattle.vf_layout.specs.Changes.{written_thread}
 use Rattle.vf_layout.proofs.CallerLemmas.{words_standing, front_written, changes_written, sound_written}
 
 runs_only : (status : Status) → is_running status ≡ true → status ≡ Running

@@ -1,5 +1,5 @@
 -- Writes into a patch, one after the other.
-use Rattle.std.proofs.Common.{◌≡◌, ◌∙◌, refl, ap, subst, sym, ℕ, ◌<◌, List, length, slice_set, OnOk, IsOk, Result, Ok, Err}
+use Rattle.std.proofs.Common.{◌≡◌, ◌∙◌, refl, ap, ℕ, ◌<◌, List, length, slice_set, OnOk, IsOk, Result, Ok, Err}
 use Rattle.std.proofs.lemmas.Bool.{false≢true}
 use Rattle.vf_base.specs.declared.write.Write.{Write}
 use Rattle.vf_machine.specs.Writes.{AllInside, written}

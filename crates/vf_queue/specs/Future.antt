@@ -1,5 +1,5 @@
 -- Where an event of a time joins the future (docs/LANGUAGE.md, "The scheduler"; IEEE Std 1364-2005, 11.4).
-use Rattle.std.specs.Prelude.{◌≡◌, ℕ, List, [], ◌∷◌, ◌++◌, Option, Some, None}
+use Rattle.std.specs.Prelude.{◌≡◌, ℕ, List, ◌∷◌, ◌++◌, Option, Some, None}
 use Rattle.vf_elaborated.specs.Elaborated.{Elaborated}
 use Rattle.vf_scheduler.specs.State.{State, Item}
 use Rattle.vf_scheduler.specs.Posting.{time_of, put_by_time}

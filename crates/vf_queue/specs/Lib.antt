@@ -2,3 +2,4 @@ pub mod Writing
 pub mod Holding
 pub mod Future
 pub mod Moves
+pub mod Updates

@@ -17,7 +17,14 @@ use vf_patch::Patch;
 
 /// A delay control (IEEE Std 1364-2005, 9.7.1): the running process goes on at a place after a delay; without one it is an inactive event
 /// of now. `Some(Ending::Time)` tells that the time would not fit 64 bits; then nothing is written.
-pub fn delay<W: Words>(design: &Design, words: &W, patch: &mut Patch, process: u32, place: u32, delay: u64) -> Result<Option<Ending>, Memory>
+pub fn delay<W: Words>(
+    design: &Design,
+    words: &W,
+    patch: &mut Patch,
+    process: u32,
+    place: u32,
+    delay: u64,
+) -> Result<Option<Ending>, Memory>
     requires { IsRunning design.now (W.contents words.now) patch.old process }
     ensures { IfOk result (λ end. (s : State) → IsSound design.now s → s.running ≡ Some process → Holds design.now (W.contents words.now) patch.old s
         → IsMove design.now (W.contents words.now) patch.new (delayed process place delay s) end) }
@@ -35,7 +42,13 @@ pub fn delay<W: Words>(design: &Design, words: &W, patch: &mut Patch, process: u
 }
 
 /// The running process is the last of the inactive events.
-fn become_inactive<W: Words>(design: &Design, words: &W, patch: &mut Patch, process: u32, place: u32) -> Result<(), Memory>
+fn become_inactive<W: Words>(
+    design: &Design,
+    words: &W,
+    patch: &mut Patch,
+    process: u32,
+    place: u32,
+) -> Result<(), Memory>
     requires { IsRunning design.now (W.contents words.now) patch.old process }
     ensures { OnOk result ((s : State) → IsSound design.now s → s.running ≡ Some process → Holds design.now (W.contents words.now) patch.old s
         → Holds design.now (W.contents words.now) patch.new (record (leaves process place Inactive s) { inactive = s.inactive ++ of_process process ∷ [] })) }
@@ -45,7 +58,14 @@ fn become_inactive<W: Words>(design: &Design, words: &W, patch: &mut Patch, proc
 }
 
 /// The running process is an event of the future.
-fn become_future<W: Words>(design: &Design, words: &W, patch: &mut Patch, process: u32, place: u32, at: u64) -> Result<(), Memory>
+fn become_future<W: Words>(
+    design: &Design,
+    words: &W,
+    patch: &mut Patch,
+    process: u32,
+    place: u32,
+    at: u64,
+) -> Result<(), Memory>
     requires { IsRunning design.now (W.contents words.now) patch.old process }
     ensures { OnOk result ((s : State) → IsSound design.now s → s.running ≡ Some process → Holds design.now (W.contents words.now) patch.old s
         → Holds design.now (W.contents words.now) patch.new (joins_future at (of_process process) (leaves process place (Future at) s))) }
@@ -57,4 +77,5 @@ fn become_future<W: Words>(design: &Design, words: &W, patch: &mut Patch, proces
 
 // The words of where a process stands.
 const INACTIVE_STATUS: u64 = 3;
+
 const FUTURE_STATUS: u64 = 4;

@@ -43,7 +43,13 @@ fn event_count(design: &Design) -> u32
 }
 
 /// An event joins the future after another one, or as the first.
-pub fn put_in<W: Words>(design: &Design, words: &W, patch: &mut Patch, last: Option<u32>, number: u32) -> Result<(), Memory>
+pub fn put_in<W: Words>(
+    design: &Design,
+    words: &W,
+    patch: &mut Patch,
+    last: Option<u32>,
+    number: u32,
+) -> Result<(), Memory>
     requires long { length (W.contents words.now) ≡ word_count design.now }
     requires last { IfSome last (λ other. other < item_count design.now) }
     requires number { number < item_count design.now }

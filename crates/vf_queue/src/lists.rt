@@ -12,7 +12,13 @@ use vf_machine::Words;
 use vf_patch::Patch;
 
 /// An event joins the end of the list whose head stands at an address. Its own link is 0 already.
-pub fn join<W: Words>(design: &Design, words: &W, patch: &mut Patch, at: u32, number: u32) -> Result<(), Memory>
+pub fn join<W: Words>(
+    design: &Design,
+    words: &W,
+    patch: &mut Patch,
+    at: u32,
+    number: u32,
+) -> Result<(), Memory>
     requires at { at + 1 < FRONT }
     requires long { length (W.contents words.now) ≡ word_count design.now }
     requires number { number < item_count design.now }
@@ -41,7 +47,13 @@ fn clear_tail(patch: &mut Patch, at: u32, tailed: bool, next: u64)
 }
 
 /// The first event of a list leaves it. Where the list has a tail, it stands in the word after the head.
-pub fn take<W: Words>(design: &Design, words: &W, patch: &mut Patch, at: u32, tailed: bool) -> Result<u32, Memory>
+pub fn take<W: Words>(
+    design: &Design,
+    words: &W,
+    patch: &mut Patch,
+    at: u32,
+    tailed: bool,
+) -> Result<u32, Memory>
     requires at { at + 1 < FRONT }
     requires long { length (W.contents words.now) ≡ word_count design.now }
     requires head { Leads design.now (slice_index (written (W.contents words.now) patch.old) at) }
@@ -57,7 +69,12 @@ pub fn take<W: Words>(design: &Design, words: &W, patch: &mut Patch, at: u32, ta
 }
 
 /// An event becomes the first of the future.
-pub fn put_first<W: Words>(design: &Design, words: &W, patch: &mut Patch, number: u32) -> Result<(), Memory>
+pub fn put_first<W: Words>(
+    design: &Design,
+    words: &W,
+    patch: &mut Patch,
+    number: u32,
+) -> Result<(), Memory>
     requires long { length (W.contents words.now) ≡ word_count design.now }
     requires number { number < item_count design.now }
     ensures { OnOk result (Writes (W.contents words.now) (put_first design.now number) patch.old patch.new) }
@@ -68,7 +85,13 @@ pub fn put_first<W: Words>(design: &Design, words: &W, patch: &mut Patch, number
 }
 
 /// An event follows another one in the future.
-pub fn put_after<W: Words>(design: &Design, words: &W, patch: &mut Patch, other: u32, number: u32) -> Result<(), Memory>
+pub fn put_after<W: Words>(
+    design: &Design,
+    words: &W,
+    patch: &mut Patch,
+    other: u32,
+    number: u32,
+) -> Result<(), Memory>
     requires long { length (W.contents words.now) ≡ word_count design.now }
     requires other { other < item_count design.now }
     requires number { number < item_count design.now }

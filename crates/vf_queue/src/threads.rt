@@ -39,7 +39,14 @@ pub fn halt(design: &Design, patch: &mut Patch, process: u32) -> Result<(), Memo
 }
 
 /// The running process leaves for a place, in a status with a time.
-pub fn leave(design: &Design, patch: &mut Patch, process: u32, place: u32, word: u64, time: u64) -> Result<(), Memory>
+pub fn leave(
+    design: &Design,
+    patch: &mut Patch,
+    process: u32,
+    place: u32,
+    word: u64,
+    time: u64,
+) -> Result<(), Memory>
     requires { process < length design.now.processes }
     ensures { OnOk result ((base : List ℕ) (s : State) (status : Status) → status_word status ≡ word → time_in status ≡ time
         → IsSound design.now s → s.running ≡ Some process
@@ -67,4 +74,5 @@ fn rest(design: &Design, patch: &mut Patch, process: u32, word: u64) -> Result<(
 
 // The words of where a process stands.
 const HALTED: u64 = 0;
+
 const WAITING: u64 = 1;

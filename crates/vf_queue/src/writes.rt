@@ -70,4 +70,3 @@ pub fn event(design: &Design, word: u64) -> u32
     let _processes = &design.processes;
     word as u32 - 1
 }
-

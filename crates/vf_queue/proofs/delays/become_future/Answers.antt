@@ -1,4 +1,4 @@
-use Rattle.std.proofs.Common.{arith, refl, sym, subst}
+use Rattle.std.proofs.Common.{arith, refl}
 use Rattle.std.proofs.lemmas.Result.{on_ok_weaker}
 use Rattle.vf_scheduler.specs.State.{Future, leaves}
 use Rattle.vf_layout.proofs.CallerLemmas.{sound_written}

@@ -19,13 +19,15 @@ pub returns-in_default : goal.returns-in_default
 returns-in_default g c s sound running holds =
     let d = c.args.design.now in
     let now = c.front-now.ensures ∙ time_read d _ _ s (sound_written d s sound).shape holds in
-    delayed_late c.args.process c.args.place c.args.delay s c.if-delay-eq0.false 
+    delayed_late c.args.process c.args.place c.args.delay s c.if-delay-eq0.false
     (⊎_elim (λ below. absurd (c.in_default.ensures below)) (λ past. omega (arith, past, now)) (cases_lt (c.front-now.result + c.args.delay) (2 ^ 64)))
 
 pub returns : goal.returns
 returns g c s sound running holds =
     let d = c.args.design.now in
     let now = c.front-now.ensures ∙ time_read d _ _ s (sound_written d s sound).shape holds in
-    let sum = c.in-Some.ensures in
-    (_, delayed_until c.args.process c.args.place c.args.delay s c.in-Some.at c.if-delay-eq0.false (omega (arith, sum.0, now)) (omega (arith, sum.1, now)),
-    c.in_ok-become_future.ensures s sound running holds)
+    let sum = c.in-Some.ensures in (
+      _,
+      delayed_until c.args.process c.args.place c.args.delay s c.in-Some.at c.if-delay-eq0.false (omega (arith, sum.0, now)) (omega (arith, sum.1, now)),
+      c.in_ok-become_future.ensures s sound running holds,
+    )

@@ -1,4 +1,4 @@
-use Rattle.std.proofs.Common.{◌+◌, ◌∙◌, ap, sym, subst, arith, slice_index}
+use Rattle.std.proofs.Common.{◌+◌, ◌∙◌, ap, arith, slice_index}
 use Rattle.vf_elaborated.specs.Addresses.{FUTURE, link_at}
 use Rattle.vf_layout.proofs.CallerLemmas.{sound_written}
 use Rattle.vf_queue.proofs.HoldLemmas.{long}

@@ -1,7 +1,6 @@
 use Rattle.std.proofs.Common.{arith, refl}
 use Rattle.vf_elaborated.proofs.CallerLemmas.{front_inside}
-use Rattle.vf_queue.specs.Writing.{Leads}
-use Rattle.vf_queue.proofs.ListLemmas.{leads_to, first_taken}
+use Rattle.vf_queue.proofs.ListLemmas.{first_taken}
 use Rattle.vf_queue.proofs.lists.take.Goals as goal
 
 pub returns-clause-words : goal.returns-clause-words

@@ -1,9 +1,6 @@
-use Rattle.std.proofs.Common.{◌+◌, arith, ap, ap₂, slice_set, sym, ◌∙◌, None}
-use Rattle.vf_elaborated.specs.Addresses.{RUNNING}
+use Rattle.std.proofs.Common.{arith}
 use Rattle.vf_elaborated.proofs.CallerLemmas.{front_inside, thread_inside}
-use Rattle.vf_scheduler.specs.State.{put_thread}
-use Rattle.vf_scheduler.specs.Words.{words_of}
-use Rattle.vf_layout.proofs.CallerLemmas.{sound_written, changes_written, front_written}
+use Rattle.vf_layout.proofs.CallerLemmas.{sound_written}
 use Rattle.vf_queue.proofs.WriteLemmas.{then_write}
 use Rattle.vf_queue.proofs.HoldLemmas.{long, held_by}
 use Rattle.vf_queue.proofs.ThreadLemmas.{leaves_for}

@@ -1,4 +1,4 @@
-use Rattle.std.proofs.Common.{◌+◌, arith, ap, ap₂, slice_set, sym, ◌∙◌}
+use Rattle.std.proofs.Common.{◌+◌, arith, ap₂, slice_set, sym, ◌∙◌}
 use Rattle.vf_elaborated.specs.Addresses.{RUNNING}
 use Rattle.vf_elaborated.proofs.CallerLemmas.{front_inside, thread_inside}
 use Rattle.vf_scheduler.specs.Words.{words_of}

@@ -1,4 +1,3 @@
-use Rattle.std.proofs.Common.{arith}
 use Rattle.vf_queue.proofs.WriteLemmas.{one_write, when_ok}
 use Rattle.vf_queue.proofs.writes.put_front.Goals as goal
 

@@ -1,4 +1,4 @@
-use Rattle.std.proofs.Common.{ap, arith, subst, slice_set}
+use Rattle.std.proofs.Common.{arith, subst, slice_set}
 use Rattle.std.proofs.lemmas.Result.{on_ok_weaker}
 use Rattle.vf_queue.specs.Writing.{Writes}
 use Rattle.vf_elaborated.proofs.CallerLemmas.{link_inside}
