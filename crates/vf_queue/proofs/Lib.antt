@@ -5,3 +5,4 @@ mod ThreadLemmas
 mod FutureLemmas
 mod KeptLemmas
 mod DelayLemmas
+mod RegionLemmas

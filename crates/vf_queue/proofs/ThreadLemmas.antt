@@ -19,6 +19,21 @@ runs_only Active h = absurd (false≢true h)
 runs_only Inactive h = absurd (false≢true h)
 runs_only (Future at) h = absurd (false≢true h)
 
+-- another status at the same place, where the time stays: the word of the status is written
+pub restatus : (d : Elaborated) (s : State) (p : ℕ) → HasShape d s → p < length d.processes → (status : Status) → time_in (thread_of s p).status ≡ time_in status
+    → words_of d (put_thread p (record { place = (thread_of s p).place; status = status }) s) ≡ slice_set (words_of d s) (thread_at p + 1) (status_word status)
+restatus d s p shape there status timed =
+    let thread : Thread = record { place = (thread_of s p).place; status = status } in
+    let words = words_of d s in
+    let stands = (words_standing d s shape).threads p there in
+    let first : slice_set words (thread_at p) thread.place ≡ words = ap (λ word. slice_set words (thread_at p) word) (sym stands.place) ∙ set-get_or words (thread_at p) 0 in
+    let later = slice_set words (thread_at p + 1) (status_word status) in
+    let time : slice_index later (thread_at p + 3) ≡ time_in status =
+    get_or-set_other words (thread_at p + 1) (thread_at p + 3) (status_word status) 0 (λ same. omega (arith, same)) ∙ (stands.time ∙ timed) in
+    ((changes_written d s shape).threads p there).thread thread
+    ∙ (ap (λ words. slice_set (slice_set words (thread_at p + 1) (status_word status)) (thread_at p + 3) (time_in status)) first
+    ∙ (ap (λ word. slice_set later (thread_at p + 3) word) (sym time) ∙ set-get_or later (thread_at p + 3) 0))
+
 module _ (d : Elaborated) (s : State) (p : ℕ) (sound : IsSound d s) (running : s.running ≡ Some p) where
   pub runs : (thread_of s p).status ≡ Running
   runs = runs_only (thread_of s p).status (sound.running p ∙ (ap (λ o. names o p) running ∙ eq-eqb p p refl))
@@ -41,18 +56,8 @@ module _ (d : Elaborated) (s : State) (p : ℕ) (sound : IsSound d s) (running :
   pub rests : (status : Status) → time_in status ≡ 0
       → words_of d (leaves p (thread_of s p).place status s) ≡ slice_set (slice_set (words_of d s) (thread_at p + 1) (status_word status)) RUNNING 0
   rests status timeless =
-      let thread : Thread = record { place = (thread_of s p).place; status = status } in
-      let words = words_of d s in
-      let stands = (words_standing d s shape).threads p is_there in
-      let first : slice_set words (thread_at p) thread.place ≡ words = ap (λ word. slice_set words (thread_at p) word) (sym stands.place) ∙ set-get_or words (thread_at p) 0 in
-      let later = slice_set words (thread_at p + 1) (status_word status) in
-      let time : slice_index later (thread_at p + 3) ≡ time_in status =
-      get_or-set_other words (thread_at p + 1) (thread_at p + 3) (status_word status) 0 (λ same. omega (arith, same)) ∙ (stands.time ∙ (ap time_in runs ∙ sym timeless)) in
-      let put : words_of d (put_thread p thread s) ≡ later =
-      ((changes_written d s shape).threads p is_there).thread thread
-      ∙ (ap (λ words. slice_set (slice_set words (thread_at p + 1) (status_word status)) (thread_at p + 3) (time_in status)) first
-      ∙ (ap (λ word. slice_set later (thread_at p + 3) word) (sym time) ∙ set-get_or later (thread_at p + 3) 0)) in
-      (front_written d (put_thread p thread s)).running None ∙ ap (λ words. slice_set words RUNNING 0) put
+      (front_written d (put_thread p (record { place = (thread_of s p).place; status = status }) s)).running None
+      ∙ ap (λ words. slice_set words RUNNING 0) (restatus d s p shape is_there status (ap time_in runs ∙ sym timeless))
 
   -- where it goes to another place, and its status may have a time
   pub leaves_for : (place : ℕ) (status : Status) (to word time at : ℕ) → to ≡ place → status_word status ≡ word → time_in status ≡ time → at ≡ thread_at p

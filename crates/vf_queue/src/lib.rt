@@ -10,10 +10,12 @@ mod addresses;
 mod delays;
 mod future;
 mod lists;
+mod regions;
 mod threads;
 mod update;
 mod writes;
 
 pub use delays::delay;
+pub use regions::{promote_updates, run, settle_monitor, take_active, watch};
 pub use threads::{go_to, halt, wait};
 pub use update::Update;

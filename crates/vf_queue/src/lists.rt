@@ -57,8 +57,8 @@ pub fn take<W: Words>(
     requires at { at + 1 < FRONT }
     requires long { length (W.contents words.now) ≡ word_count design.now }
     requires head { Leads design.now (slice_index (written (W.contents words.now) patch.old) at) }
-    ensures number { IfOk result (λ number. number ≡ slice_index (written (W.contents words.now) patch.old) at - 1) }
-    ensures words { IfOk result (λ _. Writes (W.contents words.now) (taken design.now at tailed) patch.old patch.new) }
+    ensures { IfOk result (λ number. (slice_index (written (W.contents words.now) patch.old) at ≡ number + 1)
+        × Writes (W.contents words.now) (taken design.now at tailed) patch.old patch.new) }
 {
     let number = event(design, front(design, words, patch, at));
     let next = link(design, words, patch, number);
