@@ -1,10 +1,10 @@
 -- What is written where events become active or run.
-use Rattle.std.proofs.Common.{◌≡◌, ℕ, ◌+◌, ◌<◌, ◌≤◌, Bool, true, false, List, [], ◌∷◌, ◌++◌, length, Some, refl, sym, ◌∙◌, ap, subst, arith, slice_index, slice_set}
+use Rattle.std.proofs.Common.{◌≡◌, ℕ, ◌+◌, ◌<◌, ◌≤◌, List, ◌∷◌, ◌++◌, length, Some, refl, ◌∙◌, ap, subst, arith, slice_index, slice_set}
 use Rattle.vf_elaborated.specs.Elaborated.{Elaborated}
 use Rattle.vf_elaborated.specs.Addresses.{ACTIVE, RUNNING, thread_at}
-use Rattle.vf_scheduler.specs.State.{State, Status, Halted, Waiting, Active, Inactive, Future, Running, Thread, Item, of_process, of_slot, thread_of, put_thread}
+use Rattle.vf_scheduler.specs.State.{State, Status, Halted, Waiting, Active, Inactive, Future, Running, Item, of_process, thread_of, put_thread}
 use Rattle.vf_scheduler.specs.Posting.{time_in}
-use Rattle.vf_scheduler.specs.Sound.{times, events, listed, region_of, Stands, IsSound}
+use Rattle.vf_scheduler.specs.Sound.{times, listed, region_of, Stands, IsSound}
 use Rattle.vf_scheduler.specs.Turning.{take_item}
 use Rattle.vf_scheduler.specs.Words.{link, head, numbers, words_of}
 use Rattle.vf_scheduler.proofs.CallerLemmas.{times-append, times_here}

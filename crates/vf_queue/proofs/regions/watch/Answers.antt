@@ -1,8 +1,8 @@
-use Rattle.std.proofs.Common.{◌+◌, ◌∙◌, Some, true, ap, sym, arith, slice_set}
+use Rattle.std.proofs.Common.{◌+◌, Some, true, ap, sym, arith, slice_set}
 use Rattle.vf_elaborated.specs.Addresses.{MONITOR, DUE}
 use Rattle.vf_elaborated.proofs.CallerLemmas.{front_inside}
 use Rattle.vf_scheduler.specs.Words.{words_of}
-use Rattle.vf_layout.proofs.CallerLemmas.{sound_written, front_written}
+use Rattle.vf_layout.proofs.CallerLemmas.{sound_written}
 use Rattle.vf_queue.proofs.WriteLemmas.{then_write}
 use Rattle.vf_queue.proofs.HoldLemmas.{long, held_by}
 use Rattle.vf_queue.proofs.regions.watch.Goals as goal
