@@ -1,10 +1,10 @@
 -- The link of one event in the words of a state.
-use Rattle.std.proofs.Common.{◌≡◌, ◌≢◌, ℕ, ◌+◌, ◌-◌, ◌<◌, ◌≤◌, Bool, true, false, List, [], ◌∷◌, length, refl, sym, ◌∙◌, ap, arith, ⊎_elim, ◌==◌, if◌then◌else◌, slice_index, slice_set}
+use Rattle.std.proofs.Common.{◌≡◌, ◌≢◌, ℕ, ◌+◌, ◌<◌, ◌≤◌, Bool, true, false, List, [], ◌∷◌, length, refl, sym, ◌∙◌, ap, arith, ⊎_elim, ◌==◌, if◌then◌else◌, slice_index, slice_set}
 use Rattle.std.proofs.Math.Path.{fun_ext}
-use Rattle.std.proofs.lemmas.Bool.{false≢true, eq-eqb, ne_eqb, cases_eq, lt-ltb, le-ltb}
+use Rattle.std.proofs.lemmas.Bool.{false≢true, eq-eqb, ne_eqb, cases_eq}
 use Rattle.std.proofs.lemmas.List.{set-get_or, get_or-set_same}
 use Rattle.vf_elaborated.specs.Elaborated.{Elaborated}
-use Rattle.vf_elaborated.specs.Addresses.{has_wide, thread_at, slot_at, link_at, word_count}
+use Rattle.vf_elaborated.specs.Addresses.{has_wide, link_at, word_count}
 use Rattle.vf_elaborated.proofs.CallerLemmas.{thread_inside, slot_inside, link_of_process, link_of_slot}
 use Rattle.vf_scheduler.specs.State.{State, no_thread, thread_of, Slot, Free, Later, Due, Strobed, Item, of_process, of_slot}
 use Rattle.vf_scheduler.specs.Posting.{is_free, time_in}
