@@ -8,4 +8,4 @@ pub use Rattle.vf_elaborated.proofs.LayoutLemmas.{values_fit, places_length, the
 -- each address is among the words of a state, which are few; where the link of an event stands
 pub use Rattle.vf_elaborated.proofs.AddressLemmas.{words_small, front_inside, thread_inside, address_inside, driver_inside, slots_end, slot_inside, link_of_process, link_beyond, link_of_slot, link_inside}
 -- who stands in the tables of watchers and drivers: their numbers rise, and what a scan of all processes finds is found among them
-pub use Rattle.vf_elaborated.proofs.TableLemmas.{watcher_stands, watchers_below, watchers_rise, driver_stands, drivers_below, drivers_rise, numbers_left}
+pub use Rattle.vf_elaborated.proofs.TableLemmas.{waits_at, watcher_stands, watchers_below, watchers_rise, driver_stands, drivers_below, drivers_rise, numbers_left}

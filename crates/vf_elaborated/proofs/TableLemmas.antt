@@ -110,22 +110,27 @@ numbers_left f g h from (x ∷ xs) (y ∷ ys) long tells =
 zero_more : (n : ℕ) → 0 + n ≡ n
 zero_more n = omega arith
 
+-- an instruction that a signal may wake makes its code wait for the signal
+pub waits_at : (sig : ℕ) (code : List Instr) (place : ℕ) (instr : Instr) → slice_get code place ≡ Some instr → may_wake sig instr ≡ true
+    → list_any (may_wake sig) code ≡ true
+waits_at sig [] place instr at wakes = absurd (cc at)
+waits_at sig (one ∷ rest) zero instr at wakes =
+    let same : one ≡ instr = cc at in
+    ap (λ b. b || list_any (may_wake sig) rest) (ap (may_wake sig) same ∙ wakes)
+waits_at sig (one ∷ rest) (suc place) instr at wakes = ap (λ b. may_wake sig one || b) (waits_at sig rest place instr at wakes) ∙ either (may_wake sig one)
+  where
+    either : (b : Bool) → (b || true) ≡ true
+    either true = refl
+    either false = refl
+
 module _ (d : Elaborated) where
   -- a process that has an instruction which a signal may wake is among the signal's watchers
   pub watcher_stands : (sig p place : ℕ) (process : Process) (instr : Instr) → slice_get d.processes p ≡ Some process → slice_get process.code place ≡ Some instr
       → may_wake sig instr ≡ true → Contains (watchers_of d sig) p
   unfolding watchers_of
   watcher_stands sig p place process instr there at wakes =
-      subst (Contains (watchers_of d sig)) (zero_more p) (number_stands (may_wait sig) 0 d.processes p process there (waits process.code place at))
-    where
-      waits : (code : List Instr) (place : ℕ) → slice_get code place ≡ Some instr → list_any (may_wake sig) code ≡ true
-      waits [] place at = absurd (cc at)
-      waits (one ∷ rest) zero at = let same : one ≡ instr = cc at in ap (λ b. b || list_any (may_wake sig) rest) (ap (may_wake sig) same ∙ wakes)
-      waits (one ∷ rest) (suc place) at = ap (λ b. may_wake sig one || b) (waits rest place at) ∙ either (may_wake sig one)
-        where
-          either : (b : Bool) → (b || true) ≡ true
-          either true = refl
-          either false = refl
+      subst (Contains (watchers_of d sig)) (zero_more p)
+      (number_stands (may_wait sig) 0 d.processes p process there (waits_at sig process.code place instr at wakes))
 
   pub watchers_below : (sig : ℕ) → All (λ p. p < length d.processes) (watchers_of d sig)
   unfolding watchers_of

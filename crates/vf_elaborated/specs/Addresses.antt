@@ -1,4 +1,4 @@
--- The address of each word of a state (docs/LANGUAGE.md, "The scheduler"). Addresses count words from 0.
+-- The address of each word of a state (docs/LANGUAGE.md, "The words of a state"). Addresses count words from 0.
 use Rattle.std.specs.Prelude.{ℕ, ◌+◌, ◌-◌, ◌*◌, ◌/◌, Bool, length, take, nat_lt, if◌then◌else◌}
 use Rattle.std.specs.List.{list_any, sum_by}
 use Rattle.vf_base.specs.declared.write.TheConstants.{PAGE_WORDS}

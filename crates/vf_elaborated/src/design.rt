@@ -48,7 +48,7 @@ pub struct Process {
 }
 
 impl Process {
-    /// What it drives, where it is a continuous assignment.
+    /// What it drives, where it is a continuous assignment (clause 6.1).
     pub fn target(&self) -> Option<&Target>
         ensures { option_map (λ target. target.now) result ≡ target_of self.now }
     {
@@ -80,7 +80,7 @@ pub struct Show {
     pub line: bool,
 }
 
-/// An elaborated design. It keeps in its type that it is well formed.
+/// An elaborated design. It keeps in its type that it is well formed, and beside its parts what follows from them.
 #[derive(Drop)]
 pub struct Design {
     /// The name of the top module.
@@ -92,6 +92,7 @@ pub struct Design {
     pub slots: u32,
     /// How many processes are continuous assignments.
     pub drivers: u32,
+    /// Where the parts of a state stand.
     places: Places,
     /// The processes that can wait for each signal.
     waiting: Lists,

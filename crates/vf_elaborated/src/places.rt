@@ -1,4 +1,4 @@
-//! The addresses that a design keeps, so that each is found at once (docs/LANGUAGE.md, "The scheduler").
+//! The addresses that a design keeps, so that each is found at once (docs/LANGUAGE.md, "The words of a state").
 ghost use Rattle.std.specs.Prelude.{◌≡◌, ◌+◌, ◌*◌, ◌<◌, ◌≤◌, ◌^◌, [], if◌then◌else◌, IfOk};
 ghost use Rattle.std.specs.List.{All, list_any, sum_by};
 ghost use Rattle.vf_elaborated.specs.Shapes.{WIDEST};
