@@ -110,7 +110,7 @@ ended_kind s turns sim within past ends counts (Reach n) e =
     let k = s.header.turns in
     let f = farm_of c in
     let m = machine_of c.design in
-    kind_ended f n (endings_stand m) k (point_in f (Reach n) k)
+    kind_ended f n k (point_in f (Reach n) k)
     (subst (λ j. ReadGoesOn f j k) e (read_goes_on s sim))
     (subst (λ j. IsRunAt f j k (point_in f j k)) e (run_at s sim within))
     (ap (λ j. is_decided f j (point_in f j k)) (sym e) ∙ undecided c s.job k past)

@@ -24,4 +24,4 @@ WordsAreLaidOut = (p : Program) (s : State) → IsSound p s → IsLaidOut (words
 
 -- a turn that reads the stimulus never ends the run by itself
 abbrev pub ReadsGoOn : Type 0
-ReadsGoOn = (p : Program) (s : State) (sight : Sight) → IsSound p s → (machine_of p).at_read s ≡ true → GoesOn (machine_of p) sight s
+ReadsGoOn = (p : Program) (s : State) (sight : Sight) → IsSound p s → (machine_of p).at_read sight.past_end s ≡ true → GoesOn (machine_of p) sight s

@@ -61,7 +61,7 @@ abbrev pub machine_of : Program → Machine State
 machine_of p = record {
   start = start;
   drained = λ s. is_drained s.status;
-  at_read = λ s. is_at_read s.status (instruction p s);
+  at_read = λ past_end s. is_at_read s.status (instruction p s);
   move = λ sight s. move_from p sight s s.status;
   words = words_of p;
 }

@@ -8,10 +8,10 @@ use Rattle.vf_base.specs.declared.run.Ending.TheVariants.{Drained}
 use Rattle.vf_base.specs.declared.run.Header.{Header}
 use Rattle.vf_base.specs.declared.run.Limits.{Limits}
 use Rattle.vf_machine.specs.Machine.{Machine}
-use Rattle.vf_machine.specs.Run.{Moment, Turned, moment_at, mark_at, turn_of, ended_before, performed, sight_at, is_ending}
+use Rattle.vf_machine.specs.Run.{Moment, Turned, moment_at, mark_at, turn_of, ended_before, performed, reads_next, sight_at, is_ending}
 use Rattle.vf_machine.specs.Pages.{is_touched, page_differs}
 use Rattle.vf_machine.specs.Laws.{SameFor}
-use Rattle.vf_machine.proofs.CallerLemmas.{is_touched-zero, is_touched-suc, unlimited, no_limit, later, reads_grow, moment_at-suc, IsFirst, Finds, first_finds, performed-reads, prefix, run_ends_lem}
+use Rattle.vf_machine.proofs.CallerLemmas.{is_touched-zero, is_touched-suc, unlimited, no_limit, later, reads_grow, moment_at-suc, IsFirst, Finds, first_finds, performed-reads, same_read, prefix, run_ends_lem}
 use Rattle.vf_machine.specs.Solo.{turns_before_end}
 use Rattle.vf_design.specs.State.{State, IsSound}
 use Rattle.vf_design.specs.Words.{machine_of, words_of}
@@ -58,11 +58,11 @@ ending_by true x p e h = absurd (false≢true (sym h ∙ e))
 ending_by false x p e h = refl
 
 reads_on : {S : Type 0} (m : Machine S) (stim : List ℕ) (limits : Limits) (now : Moment S) → is_ending (turn_of m stim limits now).mark ≡ false
-    → (turn_of m stim limits now).after.header.reads ≡ now.header.reads + cond (m.at_read now.state) 1 0
+    → (turn_of m stim limits now).after.header.reads ≡ now.header.reads + cond (reads_next m stim now) 1 0
 reads_on {S} m stim limits now h =
     let free = unlimited m stim limits now (no_limit (turn_of m stim limits now).mark h) in
-    let on = ending_by (m.drained now.state) (ended_before now Drained) (performed m now (m.move (sight_at m stim now) now.state)) refl (ap (λ (t : Turned S). is_ending t.mark) (sym free) ∙ h) in
-    ap (λ (t : Turned S). t.after.header.reads) (free ∙ on) ∙ performed-reads m now (m.move (sight_at m stim now) now.state)
+    let on = ending_by (m.drained now.state) (ended_before now Drained) (performed m stim now (m.move (sight_at m stim now) now.state)) refl (ap (λ (t : Turned S). is_ending t.mark) (sym free) ∙ h) in
+    ap (λ (t : Turned S). t.after.header.reads) (free ∙ on) ∙ performed-reads m stim now (m.move (sight_at m stim now) now.state)
 
 -- Up to the save point of a node above, the run of a node below meets neither its save point nor a read past its stimulus.
 module _ {S : Type 0} (m : Machine S) (a b : List ℕ) (la lb : Limits) (t : ℕ) (long : length a ≤ length b) (same : (k : ℕ) → k ≤ t → SameFor m a la b lb k)
@@ -98,21 +98,23 @@ module _ {S : Type 0} (m : Machine S) (a b : List ℕ) (la lb : Limits) (t : ℕ
   unsaved zero h = refl
   unsaved (suc k) h = unsaved_by (all_read m b lb (suc k)) k h refl
 
-  unpassed_by : (all reading : Bool) (j : ℕ) → j < t → all_read m b lb j ≡ all → m.at_read (moment_at m b lb j).state ≡ reading → (all && reading) ≡ false
+  unpassed_by : (all reading : Bool) (j : ℕ) → j < t → all_read m b lb j ≡ all → reads_next m b (moment_at m b lb j) ≡ reading → (all && reading) ≡ false
   unpassed_by false reading j h e r = refl
   unpassed_by true false j h e r = refl
   unpassed_by true true j h e r =
       let all = eqb-true (moment_at m b lb j).header.reads (length b) e in
       let above = reads_same j (omega (arith, h)) in
       let within = reads_below (suc j) (omega (arith, h)) in
-      let reading : m.at_read (moment_at m a la j).state ≡ true = ap (λ (now : Moment S). m.at_read now.state) (same j (omega (arith, h))).moment ∙ r in
+      let here = reads_below j (omega (arith, h)) in
+      let reading : reads_next m a (moment_at m a la j) ≡ true =
+      same_read m a b (moment_at m a la j) here (omega (arith, here, long)) ∙ ap (reads_next m b) (same j (omega (arith, h))).moment ∙ r in
       let after = ap (λ (now : Moment S). now.header.reads) (moment_at-suc m a la j) in
       let more = reads_on m a la (moment_at m a la j) (goes j h) in
       let one = ap (λ c. (moment_at m a la j).header.reads + cond c 1 0) reading in
       absurd (omega (arith, all, above, within, after, more, one, long))
 
   unpassed : (j : ℕ) → j < t → is_passed m b lb j ≡ false
-  unpassed j h = unpassed_by (all_read m b lb j) (m.at_read (moment_at m b lb j).state) j h refl refl
+  unpassed j h = unpassed_by (all_read m b lb j) (reads_next m b (moment_at m b lb j)) j h refl refl
 
 read_by : (all : Bool) (save : Option SaveKind) → is_some (if all then save else None) ≡ true → all ≡ true
 read_by true save h = refl

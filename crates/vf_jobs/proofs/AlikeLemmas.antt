@@ -3,7 +3,7 @@ use Rattle.std.proofs.Common.{◌≡◌, ℕ, zero, suc, ◌+◌, ◌<◌, ◌�
 use Rattle.std.proofs.lemmas.Bool.{cases_lt, eq-eqb, false≢true}
 use Rattle.vf_base.specs.declared.run.Limits.{Limits}
 use Rattle.vf_machine.specs.Machine.{Machine, Move, go, stop}
-use Rattle.vf_machine.specs.Run.{Moment, Turned, moment_at, text_at, turn_at, turn_of, mark_at, free_turn, performed, sight_at, is_ending}
+use Rattle.vf_machine.specs.Run.{Moment, Turned, moment_at, text_at, turn_at, turn_of, mark_at, free_turn, performed, reads_next, sight_at, is_ending}
 use Rattle.vf_machine.specs.Pages.{page_count, page_differs, is_touched, pages_touched}
 use Rattle.vf_machine.specs.Solo.{turns_before_end}
 use Rattle.vf_machine.proofs.CallerLemmas.{moment_at-zero, moment_at-suc, text_at-zero, text_at-suc, is_touched-zero, is_touched-suc, count_below-ext, performed-reads, run_ends_lem}
@@ -54,9 +54,9 @@ same_limited {S} m a b la lb now e ht ho =
     (λ d t. ho d t ∙ ap (λ (f : Turned S). nat_lt lb.output f.after.header.written) e) e
 
 -- a turn that no limit keeps from being made counts itself
-performed-turns : {S : Type 0} (m : Machine S) (now : Moment S) (move : Move S) → (performed m now move).after.header.turns ≡ now.header.turns + 1
-performed-turns m now (go state text save) = refl
-performed-turns m now (stop ending) = refl
+performed-turns : {S : Type 0} (m : Machine S) (stim : List ℕ) (now : Moment S) (move : Move S) → (performed m stim now move).after.header.turns ≡ now.header.turns + 1
+performed-turns m stim now (go state text save) = refl
+performed-turns m stim now (stop ending) = refl
 
 counted_by : {S : Type 0} (d t o : Bool) (x y z p : Turned S) (n : ℕ) → d ≡ false → t ≡ false → z.after.header.turns ≡ n → p.after.header.turns ≡ n
     → (cond d x (cond t y (cond o z (cond d x p)))).after.header.turns ≡ n
@@ -69,7 +69,7 @@ pub turn_counted : {S : Type 0} (m : Machine S) (stim : List ℕ) (limits : Limi
     → nat_le limits.turns now.header.turns ≡ false → (turn_of m stim limits now).after.header.turns ≡ now.header.turns + 1
 turn_counted m stim limits now hd ht =
     counted_by (m.drained now.state) (nat_le limits.turns now.header.turns) (nat_lt limits.output (free_turn m stim now).after.header.written)
-    _ _ _ _ (now.header.turns + 1) hd ht refl (performed-turns m now (m.move (sight_at m stim now) now.state))
+    _ _ _ _ (now.header.turns + 1) hd ht refl (performed-turns m stim now (m.move (sight_at m stim now) now.state))
 
 -- ---- reads up to the stimulus's end
 
@@ -90,14 +90,14 @@ free_by : {S : Type 0} (d : Bool) (x p : Turned S) (n : ℕ) → x.after.header.
 free_by true x p n hx hp = hx
 free_by false x p n hx hp = hp
 
-pub free_within : {S : Type 0} (m : Machine S) (stim : List ℕ) (now : Moment S) (n : ℕ) → now.header.reads ≤ n → ((now.header.reads == n) && m.at_read now.state) ≡ false
+pub free_within : {S : Type 0} (m : Machine S) (stim : List ℕ) (now : Moment S) (n : ℕ) → now.header.reads ≤ n → ((now.header.reads == n) && reads_next m stim now) ≡ false
     → (free_turn m stim now).after.header.reads ≤ n
 free_within m stim now n h e =
-    let one = room now.header.reads n (m.at_read now.state) h e in
-    let reads = performed-reads m now (m.move (sight_at m stim now) now.state) in
+    let one = room now.header.reads n (reads_next m stim now) h e in
+    let reads = performed-reads m stim now (m.move (sight_at m stim now) now.state) in
     free_by (m.drained now.state) _ _ n h (omega (arith, one, reads))
 
-turn_within : {S : Type 0} (m : Machine S) (stim : List ℕ) (limits : Limits) (now : Moment S) (n : ℕ) → now.header.reads ≤ n → ((now.header.reads == n) && m.at_read now.state) ≡ false
+turn_within : {S : Type 0} (m : Machine S) (stim : List ℕ) (limits : Limits) (now : Moment S) (n : ℕ) → now.header.reads ≤ n → ((now.header.reads == n) && reads_next m stim now) ≡ false
     → (turn_of m stim limits now).after.header.reads ≤ n
 turn_within m stim limits now n h e =
     within_by (m.drained now.state) (nat_le limits.turns now.header.turns) (nat_lt limits.output (free_turn m stim now).after.header.written)
@@ -141,4 +141,4 @@ pub cut_ends : {S : Type 0} (m : Machine S) (stim : List ℕ) (limits : Limits) 
     → is_ending (turn_of m stim limits now).mark ≡ true
 cut_ends m stim limits now e =
     cut_by (m.drained now.state) (nat_le limits.turns now.header.turns) (nat_lt limits.output (free_turn m stim now).after.header.written)
-    _ _ _ (performed m now (m.move (sight_at m stim now) now.state)) e refl refl refl
+    _ _ _ (performed m stim now (m.move (sight_at m stim now) now.state)) e refl refl refl

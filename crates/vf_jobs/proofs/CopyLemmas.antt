@@ -7,7 +7,7 @@ use Rattle.vf_base.specs.declared.run.Limits.{Limits}
 use Rattle.vf_base.specs.declared.run.Outcome.TheVariants.{Done, Pages}
 use Rattle.vf_base.specs.declared.run.SaveKind.TheVariants.{Full}
 use Rattle.vf_machine.specs.Machine.{Machine}
-use Rattle.vf_machine.specs.Run.{Moment, Turned, moment_at, turn_at, turn_of, mark_at, free_turn, is_ending}
+use Rattle.vf_machine.specs.Run.{Moment, Turned, moment_at, turn_at, turn_of, mark_at, reads_next, free_turn, is_ending}
 use Rattle.vf_machine.specs.Pages.{page_count, is_touched, pages_touched}
 use Rattle.vf_machine.specs.Search.{count_below}
 use Rattle.vf_machine.specs.Solo.{turns_before_end, ending_of, solo}
@@ -135,7 +135,7 @@ unsaved m b lb zero e = refl
 unsaved m b lb (suc t) e = ap (λ r. if r then save_of (mark_at m b lb t) else None) e
 
 unpassed : {S : Type 0} (m : Machine S) (b : List ℕ) (lb : Limits) (t : ℕ) → all_read m b lb t ≡ false → is_passed m b lb t ≡ false
-unpassed m b lb t e = ap (λ r. r && m.at_read (moment_at m b lb t).state) e
+unpassed m b lb t e = ap (λ r. r && reads_next m b (moment_at m b lb t)) e
 
 -- ---- an ending
 

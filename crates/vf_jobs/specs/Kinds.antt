@@ -13,7 +13,7 @@ use Rattle.vf_machine.specs.declared.mark.Mark.{Mark}
 use Rattle.vf_machine.specs.declared.mark.Mark.TheVariants.{Plain, Saved, Ended}
 use Rattle.vf_machine.specs.Machine.{Machine}
 use Rattle.vf_machine.specs.Search.{first}
-use Rattle.vf_machine.specs.Run.{moment_at, turn_at, mark_at}
+use Rattle.vf_machine.specs.Run.{moment_at, turn_at, mark_at, reads_next}
 use Rattle.vf_machine.specs.Pages.{pages_touched}
 use Rattle.vf_machine.specs.Solo.{turns_before_end, solo}
 use Rattle.vf_machine.specs.Laws.{SameFor}
@@ -62,7 +62,7 @@ is_saved m stim limits budget t = is_at t (savepoint m stim limits) && nat_le (p
 
 -- the next turn would read past the stimulus, whether or not a limit ends the run before it
 abbrev pub is_passed : {S : Type 0} → Machine S → List ℕ → Limits → ℕ → Bool
-is_passed m stim limits t = all_read m stim limits t && m.at_read (moment_at m stim limits t).state
+is_passed m stim limits t = all_read m stim limits t && reads_next m stim (moment_at m stim limits t)
 
 -- the run goes on, and its next turn passes the budget
 abbrev pub is_over : {S : Type 0} → Machine S → List ℕ → Limits → ℕ → ℕ → Bool

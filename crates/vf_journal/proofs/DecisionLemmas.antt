@@ -10,7 +10,7 @@ use Rattle.vf_base.specs.declared.run.SaveKind.{SaveKind}
 use Rattle.vf_base.specs.declared.run.SaveKind.TheVariants.{Full}
 use Rattle.vf_machine.specs.Machine.{Machine, Move, go, stop}
 use Rattle.vf_machine.specs.Search.{any_below}
-use Rattle.vf_machine.specs.Run.{Moment, Turned, moment_at, text_at, turn_at, turn_of, free_turn, performed, sight_at, saved_mark, mark_at, is_ending}
+use Rattle.vf_machine.specs.Run.{Moment, Turned, moment_at, text_at, turn_at, turn_of, free_turn, performed, reads_next, sight_at, saved_mark, mark_at, is_ending}
 use Rattle.vf_machine.specs.Pages.{page_count, page_differs, is_touched, pages_touched}
 use Rattle.vf_machine.specs.Solo.{turns_before_end, ending_of, passing_turn}
 use Rattle.vf_machine.proofs.CallerLemmas.{turns_counted, counts_once, run_ends_lem, Finds, first_finds, first_is, KeepsWithin, solo_ended, solo_passed, moment_at-suc, is_touched-suc, count_below-ext}
@@ -289,27 +289,27 @@ pub record EndsAt {S : Type 0} (now : Moment S) (t : Turned S) : Type 0 where
   pub reads : t.after.header.reads ≡ now.header.reads
   pub written : t.after.header.written ≡ now.header.written
 
-performed_ends : {S : Type 0} (m : Machine S) (now : Moment S) (move : Move S) → (m.at_read now.state ≡ true → goes_on move ≡ true)
-    → is_ending (performed m now move).mark ≡ true → EndsAt now (performed m now move)
-performed_ends m now (go state text save) reads h = absurd (false≢true (sym (saved_goes_on save) ∙ h))
-performed_ends m now (stop ending) reads h = record { state = refl; reads = by (m.at_read now.state) reads; written = let n = now.header.written in omega arith }
+performed_ends : {S : Type 0} (m : Machine S) (stim : List ℕ) (now : Moment S) (move : Move S) → (reads_next m stim now ≡ true → goes_on move ≡ true)
+    → is_ending (performed m stim now move).mark ≡ true → EndsAt now (performed m stim now move)
+performed_ends m stim now (go state text save) reads h = absurd (false≢true (sym (saved_goes_on save) ∙ h))
+performed_ends m stim now (stop ending) reads h = record { state = refl; reads = by (reads_next m stim now) reads; written = let n = now.header.written in omega arith }
   where
     by : (read : Bool) → (read ≡ true → false ≡ true) → now.header.reads + (if read then 1 else 0) ≡ now.header.reads
     by true goes = absurd (false≢true (goes refl))
     by false goes = omega arith
 
 pub ends_still : {S : Type 0} (m : Machine S) (stim : List ℕ) (limits : Limits) (now : Moment S)
-    → (m.at_read now.state ≡ true → goes_on (m.move (sight_at m stim now) now.state) ≡ true)
+    → (reads_next m stim now ≡ true → goes_on (m.move (sight_at m stim now) now.state) ≡ true)
     → is_ending (turn_of m stim limits now).mark ≡ true → EndsAt now (turn_of m stim limits now)
 ends_still m stim limits now reads ends =
     ending_by (EndsAt now) (m.drained now.state) (nat_le limits.turns now.header.turns) (nat_lt limits.output (free_turn m stim now).after.header.written)
-    _ _ _ (performed m now (m.move (sight_at m stim now) now.state))
+    _ _ _ (performed m stim now (m.move (sight_at m stim now) now.state))
     (record { state = refl; reads = refl; written = refl }) (record { state = refl; reads = refl; written = refl }) (record { state = refl; reads = refl; written = refl })
-    (performed_ends m now (m.move (sight_at m stim now) now.state) reads) ends
+    (performed_ends m stim now (m.move (sight_at m stim now) now.state) reads) ends
 
-performed_stands : {S : Type 0} (m : Machine S) (now : Moment S) (move : Move S) → is_ending (performed m now move).mark ≡ true → (performed m now move).after.state ≡ now.state
-performed_stands m now (go state text save) h = absurd (false≢true (sym (saved_goes_on save) ∙ h))
-performed_stands m now (stop ending) h = refl
+performed_stands : {S : Type 0} (m : Machine S) (stim : List ℕ) (now : Moment S) (move : Move S) → is_ending (performed m stim now move).mark ≡ true → (performed m stim now move).after.state ≡ now.state
+performed_stands m stim now (go state text save) h = absurd (false≢true (sym (saved_goes_on save) ∙ h))
+performed_stands m stim now (stop ending) h = refl
 
 -- the law, for proofs that no law function can hand over to
 pub endings_stand : {S : Type 0} (m : Machine S) → Stands m
@@ -317,31 +317,26 @@ endings_stand {S} m stim limits k ends =
     let now = moment_at m stim limits k in
     ap (λ (x : Moment S). x.state) (moment_at-suc m stim limits k)
     ∙ ending_by (λ t. t.after.state ≡ now.state) (m.drained now.state) (nat_le limits.turns now.header.turns) (nat_lt limits.output (free_turn m stim now).after.header.written)
-    _ _ _ (performed m now (m.move (sight_at m stim now) now.state)) refl refl refl (performed_stands m now (m.move (sight_at m stim now) now.state)) ends
+    _ _ _ (performed m stim now (m.move (sight_at m stim now) now.state)) refl refl refl (performed_stands m stim now (m.move (sight_at m stim now) now.state)) ends
 
 found_before : (j : ℕ) (p : ℕ → Bool) (b : ℕ) (found : Option ℕ) → Finds p b found → b ≤ j → is_at j found ≡ false
 found_before j p b None finds h = refl
 found_before j p b (Some i) finds h = ne_eqb i j (λ same. omega (arith, same, h, finds.below))
 
-module _ {S : Type 0} (f : Farm S) (n : NodeNo) (stands : Stands f.machine) where
+module _ {S : Type 0} (f : Farm S) (n : NodeNo) where
   abbrev s : List ℕ
   s = stimulus f (Reach n)
 
   abbrev l : Limits
   l = limits f (Reach n)
 
-  unpassed_by : (k : ℕ) (read : Bool) → ReadGoesOn f (Reach n) k → f.machine.at_read (moment_at f.machine s l k).state ≡ read → is_ending (mark_at f.machine s l k) ≡ true
-      → is_passed f.machine s l k ≡ false → is_passed f.machine s l (suc k) ≡ false
-  unpassed_by k false reads e ends h =
-      and_right (all_read f.machine s l (suc k)) (f.machine.at_read (moment_at f.machine s l (suc k)).state)
-      (ap f.machine.at_read (stands s l k ends) ∙ e)
-  unpassed_by k true reads e ends h =
-      let same : (moment_at f.machine s l (suc k)).header.reads ≡ (moment_at f.machine s l k).header.reads =
-      ap (λ now. now.header.reads) (moment_at-suc f.machine s l k) ∙ (ends_still f.machine s l (moment_at f.machine s l k) reads ends).reads in
-      ap₂ (λ r read. (r == length s) && read) same (ap f.machine.at_read (stands s l k ends)) ∙ h
-
+  -- a turn that ends the run reads nothing, so what is asked after it is what was asked before it
   unpassed : (k : ℕ) → ReadGoesOn f (Reach n) k → is_ending (mark_at f.machine s l k) ≡ true → is_passed f.machine s l k ≡ false → is_passed f.machine s l (suc k) ≡ false
-  unpassed k reads ends h = unpassed_by k (f.machine.at_read (moment_at f.machine s l k).state) reads refl ends h
+  unpassed k reads ends h =
+      let next = moment_at-suc f.machine s l k in
+      let still = ends_still f.machine s l (moment_at f.machine s l k) reads ends in
+      ap₂ (λ count state. (count == length s) && f.machine.at_read (nat_lt (length s) count) state)
+      (ap (λ now. now.header.reads) next ∙ still.reads) (ap (λ now. now.state) next ∙ still.state) ∙ h
 
   ended_here : (k t : ℕ) (now : Point S) → ReadGoesOn f (Reach n) k → IsRunAt f (Reach n) k now → is_decided f (Reach n) (point_in f (Reach n) k) ≡ false → is_ending (mark_at f.machine s l k) ≡ true
       → turns_at_end f.machine s l ≡ t → (t ≡ k) ⊎ (t ≡ suc k) → kind_of f.machine s l f.budget ≡ Some (ended t)

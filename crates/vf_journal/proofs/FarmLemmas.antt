@@ -288,7 +288,7 @@ module _ {S : Type 0} (f : Farm S) (plan : IsPlan f.nodes) (stands : Stands f.ma
   solo_end_kind (Finish n) turn a runs may = tt
   solo_end_kind (Reach n) turn a runs may =
       let run = run_now (Reach n) a runs in
-      kind_ended f n stands (turns_at w (Reach n)) (w.runs (Reach n)) (reads (Reach n) (turns_at w (Reach n))) run (ap (is_decided f (Reach n)) (sym run.at) ∙ may.undecided) (ends_now (Reach n) turn a runs may)
+      kind_ended f n (turns_at w (Reach n)) (w.runs (Reach n)) (reads (Reach n) (turns_at w (Reach n))) run (ap (is_decided f (Reach n)) (sym run.at) ∙ may.undecided) (ends_now (Reach n) turn a runs may)
       ∙ ap (λ t. Some (solo.ended t)) (sym (turn_is (Reach n) turn a runs may))
 
   solo_end : (job : Job) (turn : ℕ) (a : Attempt) → IsRunning r job a → MayEnd f w job turn → journal.EndsSolo f job turn

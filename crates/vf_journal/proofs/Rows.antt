@@ -24,7 +24,7 @@ use Rattle.vf_journal.specs.Journal.{replay, first_ready, next_evicted}
 
 -- no rule looks into the machine
 nothing : Machine (Unit {0})
-nothing = record { start = tt; drained = λ s. true; at_read = λ s. false; move = λ sight s. stop endings.Drained; words = λ s. [] }
+nothing = record { start = tt; drained = λ s. true; at_read = λ past_end s. false; move = λ sight s. stop endings.Drained; words = λ s. [] }
 
 given : Limits
 given = record { turns = 1000000; output = 65536 }

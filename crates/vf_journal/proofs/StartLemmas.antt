@@ -9,10 +9,10 @@ use Rattle.vf_base.specs.declared.names.Job.TheVariants.{Reach, Finish}
 use Rattle.vf_base.specs.declared.names.NodeNo.{NodeNo}
 use Rattle.vf_base.specs.declared.run.Header.{Header}
 use Rattle.vf_base.specs.declared.run.Limits.{Limits}
-use Rattle.vf_machine.specs.Run.{Moment, moment_at, is_ending}
+use Rattle.vf_machine.specs.Run.{Moment, moment_at, reads_next, is_ending}
 use Rattle.vf_machine.specs.Pages.{page_count, page_differs, is_touched}
 use Rattle.vf_machine.specs.Laws.{SameFor}
-use Rattle.vf_machine.proofs.CallerLemmas.{is_touched-zero, is_touched-suc, later, reads_grow, count_below-ext, prefix, run_ends_lem}
+use Rattle.vf_machine.proofs.CallerLemmas.{is_touched-zero, is_touched-suc, later, reads_grow, same_read, count_below-ext, prefix, run_ends_lem}
 use Rattle.vf_plan.specs.declared.plan.Node.{Node}
 use Rattle.vf_plan.specs.Paths.{path, at_parent, grown, with_number}
 use Rattle.vf_plan.proofs.CallerLemmas.{path-at}
@@ -31,9 +31,10 @@ use Rattle.vf_journal.proofs.DecisionLemmas.{SavesAt, savepoint_is}
 
 -- ---- the run of a job below an image
 
-decided_less : (above below save pass : Bool) → (below ≡ true → above ≡ true) → ((above && save) || (above && pass)) ≡ false → ((below && save) || (below && pass)) ≡ false
-decided_less above false save pass read h = refl
-decided_less above true save pass read h = ap (λ a. (a && save) || (a && pass)) (sym (read refl)) ∙ h
+decided_less : (above below save pass reads : Bool) → (below ≡ true → (above ≡ true) × (reads ≡ pass)) → ((above && save) || (above && pass)) ≡ false
+    → ((below && save) || (below && reads)) ≡ false
+decided_less above false save pass reads same h = refl
+decided_less above true save pass reads same h = let both = same refl in ap₂ (λ a r. (a && save) || (a && r)) (sym both.0) both.1 ∙ h
 
 module _ {S : Type 0} (f : Farm S) (plan : IsPlan f.nodes) (n : NodeNo) (job : Job) (t : ℕ) (now : Point S) (run : IsRunAt f (Reach n) t now) (saved : SavesAt f n t)
     (is : is_below f.nodes n.0 (node_of job) ≡ true) (fit : fits (limits f job) (point_in f (Reach n) t).moment.header ≡ true) where
@@ -90,10 +91,12 @@ module _ {S : Type 0} (f : Farm S) (plan : IsPlan f.nodes) (n : NodeNo) (job : J
   undecided_by (Reach other) more k h =
       let p = point_in f (Reach n) k in
       let within = reads_below k (omega (arith, h)) in
-      decided_less (has_read_all f (Reach n) p) (has_read_all f (Reach other) p) (is_some p.saved) (f.machine.at_read p.moment.state)
+      let s = stimulus f (Reach n) in
+      let t = stimulus f (Reach other) in
+      decided_less (has_read_all f (Reach n) p) (has_read_all f (Reach other) p) (is_some p.saved) (reads_next f.machine s p.moment) (reads_next f.machine t p.moment)
       (λ e.
-      let all = eqb-true p.moment.header.reads (length (stimulus f (Reach other))) e in
-      eq-eqb p.moment.header.reads (length (stimulus f (Reach n))) (omega (arith, all, within, more)))
+      let all = eqb-true p.moment.header.reads (length t) e in
+      (eq-eqb p.moment.header.reads (length s) (omega (arith, all, within, more)), same_read f.machine t s p.moment (omega (arith, all)) within))
       (run.undecided k h)
 
   pub run_from_image : IsRunAt f job t now

@@ -8,7 +8,7 @@ use Rattle.vf_base.specs.declared.run.Outcome.TheVariants.{Done}
 use Rattle.vf_base.specs.declared.run.SaveKind.{SaveKind}
 use Rattle.vf_machine.specs.Machine.{Machine}
 use Rattle.vf_machine.specs.Search.{count_below}
-use Rattle.vf_machine.specs.Run.{Moment, Turned, at_zero, moment_at, text_at, turn_of, mark_at}
+use Rattle.vf_machine.specs.Run.{Moment, Turned, at_zero, moment_at, text_at, turn_of, mark_at, reads_next}
 use Rattle.vf_machine.specs.Pages.{page_count, page_differs, is_touched}
 use Rattle.vf_machine.specs.Solo.{ending_of}
 use Rattle.vf_plan.specs.declared.plan.Node.{Node}
@@ -82,7 +82,7 @@ is_at_save f (Reach n) now = has_read_all f (Reach n) now && is_some now.saved
 is_at_save f (Finish n) now = false
 
 abbrev pub is_at_pass : {S : Type 0} → Farm S → Job → Point S → Bool
-is_at_pass f (Reach n) now = has_read_all f (Reach n) now && f.machine.at_read now.moment.state
+is_at_pass f (Reach n) now = has_read_all f (Reach n) now && reads_next f.machine (stimulus f (Reach n)) now.moment
 is_at_pass f (Finish n) now = false
 
 abbrev pub is_decided : {S : Type 0} → Farm S → Job → Point S → Bool

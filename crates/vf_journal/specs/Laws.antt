@@ -7,7 +7,7 @@ use Rattle.vf_base.specs.declared.names.NodeNo.{NodeNo}
 use Rattle.vf_base.specs.declared.run.Outcome.{Outcome}
 use Rattle.vf_base.specs.declared.run.SaveKind.{SaveKind}
 use Rattle.vf_machine.specs.Machine.{Move, go, stop}
-use Rattle.vf_machine.specs.Run.{sight_at}
+use Rattle.vf_machine.specs.Run.{reads_next, sight_at}
 use Rattle.vf_plan.specs.Rules.{IsPlan}
 use Rattle.vf_jobs.specs.Kinds as solo
 use Rattle.vf_jobs.specs.Kinds.{savepoint_of_node}
@@ -28,7 +28,7 @@ goes_on (stop ending) = false
 -- the turn after k turns of a job's solo run, if it reads the stimulus, does not end the run by itself
 abbrev pub ReadGoesOn : {S : Type 0} → Farm S → Job → ℕ → Type 0
 ReadGoesOn f job k =
-    f.machine.at_read (point_in f job k).moment.state ≡ true
+    reads_next f.machine (stimulus f job) (point_in f job k).moment ≡ true
     → goes_on (f.machine.move (sight_at f.machine (stimulus f job) (point_in f job k).moment) (point_in f job k).moment.state) ≡ true
 
 -- no turn of the solo runs that reads the stimulus ends the run by itself

@@ -54,16 +54,16 @@ free_by false x f h = refl
 -- a turn that is performed
 performed_is : (p : Program) (stim : List ℕ) (limits : Limits) (now : Moment State) (move : Move State)
     → is_drained now.state.status ≡ false → now.header.turns < limits.turns → move_from p (sight_at (machine_of p) stim now) now.state now.state.status ≡ move
-    → (performed (machine_of p) now move).after.header.written ≤ limits.output
-    → turn_of (machine_of p) stim limits now ≡ performed (machine_of p) now move
+    → (performed (machine_of p) stim now move).after.header.written ≤ limits.output
+    → turn_of (machine_of p) stim limits now ≡ performed (machine_of p) stim now move
 performed_is p stim limits now move drained turns is fits =
     let m = machine_of p in
-    let free : free_turn m stim now ≡ performed m now move = free_by (is_drained now.state.status) _ _ drained ∙ ap (performed m now) is in
+    let free : free_turn m stim now ≡ performed m stim now move = free_by (is_drained now.state.status) _ _ drained ∙ ap (performed m stim now) is in
     within_by (is_drained now.state.status) (nat_le limits.turns now.header.turns) (nat_lt limits.output (free_turn m stim now).after.header.written)
-    _ _ _ (performed m now (move_from p (sight_at m stim now) now.state now.state.status))
+    _ _ _ (performed m stim now (move_from p (sight_at m stim now) now.state now.state.status))
     drained (lt-leb limits.turns now.header.turns turns)
-    (ap (λ t. nat_lt limits.output t.after.header.written) free ∙ le-ltb limits.output (performed m now move).after.header.written fits)
-    ∙ ap (performed m now) is
+    (ap (λ t. nat_lt limits.output t.after.header.written) free ∙ le-ltb limits.output (performed m stim now move).after.header.written fits)
+    ∙ ap (performed m stim now) is
 
 -- the turn of a running process, by its instruction
 module _ (p : Program) (stim : List ℕ) (limits : Limits) (header : Header) (s : State) (instr : Instr) (turn : Turn)
@@ -101,7 +101,7 @@ module _ (p : Program) (stim : List ℕ) (limits : Limits) (header : Header) (s 
       → (free_turn (machine_of p) stim now).after.header.written ≡ header.written + length text
   would_write after text save is =
       ap (λ t. t.after.header.written)
-      (free_by (is_drained s.status) _ _ (ap is_drained runs) ∙ ap (performed (machine_of p) now) (moves (go after text save) is))
+      (free_by (is_drained s.status) _ _ (ap is_drained runs) ∙ ap (performed (machine_of p) stim now) (moves (go after text save) is))
 
 -- a turn that the limit on output cuts off
 pub cuts : (p : Program) (stim : List ℕ) (limits : Limits) (header : Header) (s : State) (turn : Turn) → is_drained s.status ≡ false → header.turns < limits.turns

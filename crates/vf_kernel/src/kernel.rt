@@ -17,7 +17,7 @@ use vf_design::{Design, Mark, Turn, Words};
 pub fn reads_next<W: Words>(design: &Design, words: &W) -> bool
     requires { HoldsState design.now (W.contents words.now) }
     ensures { (s : model.State) → IsSound design.now s → words_of design.now s ≡ W.contents words.now
-        → result ≡ (machine_of design.now).at_read s }
+        → result ≡ (machine_of design.now).at_read (W.past_end words.now) s }
 {
     State::read(design, words).reads(design)
 }

@@ -8,7 +8,7 @@ pub use Rattle.vf_machine.proofs.Prefixes.{same_free}
 pub use Rattle.vf_machine.proofs.Prefixes.{prefix}
 pub use Rattle.vf_machine.proofs.Ends.{run_ends_lem}
 -- what a header counts: a turn reads once at most, and no number falls
-pub use Rattle.vf_machine.proofs.Runs.{performed-reads, reads_once, reads_grow, free_turn-writes, written_grows, later}
+pub use Rattle.vf_machine.proofs.Runs.{performed-reads, same_read, reads_once, reads_grow, free_turn-writes, written_grows, later}
 pub use Rattle.vf_machine.proofs.Ends.{turn-counts, turns_counted, counts_once, before_limit}
 -- a turn that by itself ends no run is an ending only by a limit
 pub use Rattle.vf_machine.proofs.Ends.{ends_by_limits}

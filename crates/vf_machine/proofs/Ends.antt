@@ -19,15 +19,15 @@ saved_goes_on (Some kind) = refl
 abbrev Counts : {S : Type 0} → Moment S → Turned S → Type 0
 Counts now t = is_ending t.mark ≡ false → t.after.header.turns ≡ now.header.turns + 1
 
-performed-counts : {S : Type 0} (m : Machine S) (now : Moment S) (move : Move S) → Counts now (performed m now move)
-performed-counts m now (go state text save) = λ h. refl
-performed-counts m now (stop ending) = λ h. refl
+performed-counts : {S : Type 0} (m : Machine S) (stim : List ℕ) (now : Moment S) (move : Move S) → Counts now (performed m stim now move)
+performed-counts m stim now (go state text save) = λ h. refl
+performed-counts m stim now (stop ending) = λ h. refl
 
 pub turn-counts : {S : Type 0} (m : Machine S) (stim : List ℕ) (limits : Limits) (now : Moment S) → Counts now (turn_of m stim limits now)
 turn-counts m stim limits now =
     branches (Counts now) (m.drained now.state) (nat_le limits.turns now.header.turns) (nat_lt limits.output (free_turn m stim now).after.header.written)
     _ _ _ _ (λ h. absurd (false≢true (sym h))) (λ h. absurd (false≢true (sym h))) (λ h. refl)
-    (branches_free (Counts now) (m.drained now.state) _ _ (λ h. absurd (false≢true (sym h))) (performed-counts m now (m.move (sight_at m stim now) now.state)))
+    (branches_free (Counts now) (m.drained now.state) _ _ (λ h. absurd (false≢true (sym h))) (performed-counts m stim now (m.move (sight_at m stim now) now.state)))
 
 -- before the first ending, as many turns are counted as were made
 pub turns_counted : {S : Type 0} (m : Machine S) (stim : List ℕ) (limits : Limits) (k : ℕ) → NoneBelow (λ j. is_ending (mark_at m stim limits j)) k → (moment_at m stim limits k).header.turns ≡ k
@@ -68,15 +68,15 @@ run_ends_lem m stim limits =
 abbrev Still : {S : Type 0} → Moment S → Turned S → Type 0
 Still now t = is_ending t.mark ≡ true → (t.after.state ≡ now.state) × (t.text ≡ [])
 
-performed-still : {S : Type 0} (m : Machine S) (now : Moment S) (move : Move S) → Still now (performed m now move)
-performed-still m now (go state text save) = λ h. absurd (false≢true (sym (saved_goes_on save) ∙ h))
-performed-still m now (stop ending) = λ h. (refl, refl)
+performed-still : {S : Type 0} (m : Machine S) (stim : List ℕ) (now : Moment S) (move : Move S) → Still now (performed m stim now move)
+performed-still m stim now (go state text save) = λ h. absurd (false≢true (sym (saved_goes_on save) ∙ h))
+performed-still m stim now (stop ending) = λ h. (refl, refl)
 
 pub turn-still : {S : Type 0} (m : Machine S) (stim : List ℕ) (limits : Limits) (now : Moment S) → Still now (turn_of m stim limits now)
 turn-still m stim limits now =
     branches (Still now) (m.drained now.state) (nat_le limits.turns now.header.turns) (nat_lt limits.output (free_turn m stim now).after.header.written)
     _ _ _ _ (λ h. (refl, refl)) (λ h. (refl, refl)) (λ h. (refl, refl))
-    (branches_free (Still now) (m.drained now.state) _ _ (λ h. (refl, refl)) (performed-still m now (m.move (sight_at m stim now) now.state)))
+    (branches_free (Still now) (m.drained now.state) _ _ (λ h. (refl, refl)) (performed-still m stim now (m.move (sight_at m stim now) now.state)))
 
 pub ending_still : {S : Type 0} (m : Machine S) (stim : List ℕ) (limits : Limits) (k : ℕ) → is_ending (mark_at m stim limits k) ≡ true → EndingIsStill m stim limits k
 ending_still m stim limits k h =
@@ -87,16 +87,16 @@ ending_still m stim limits k h =
 abbrev CountsOnce : {S : Type 0} → Moment S → Turned S → Type 0
 CountsOnce now t = (now.header.turns ≤ t.after.header.turns) × (t.after.header.turns ≤ now.header.turns + 1)
 
-performed-counts-once : {S : Type 0} (m : Machine S) (now : Moment S) (move : Move S) → CountsOnce now (performed m now move)
-performed-counts-once m now (go state text save) = (omega arith, omega arith)
-performed-counts-once m now (stop ending) = (omega arith, omega arith)
+performed-counts-once : {S : Type 0} (m : Machine S) (stim : List ℕ) (now : Moment S) (move : Move S) → CountsOnce now (performed m stim now move)
+performed-counts-once m stim now (go state text save) = (omega arith, omega arith)
+performed-counts-once m stim now (stop ending) = (omega arith, omega arith)
 
 pub counts_once : {S : Type 0} (m : Machine S) (stim : List ℕ) (limits : Limits) (now : Moment S)
     → (now.header.turns ≤ (turn_of m stim limits now).after.header.turns) × ((turn_of m stim limits now).after.header.turns ≤ now.header.turns + 1)
 counts_once m stim limits now =
     branches (CountsOnce now) (m.drained now.state) (nat_le limits.turns now.header.turns) (nat_lt limits.output (free_turn m stim now).after.header.written)
     _ _ _ _ (omega arith, omega arith) (omega arith, omega arith) (omega arith, omega arith)
-    (branches_free (CountsOnce now) (m.drained now.state) _ _ (omega arith, omega arith) (performed-counts-once m now (m.move (sight_at m stim now) now.state)))
+    (branches_free (CountsOnce now) (m.drained now.state) _ _ (omega arith, omega arith) (performed-counts-once m stim now (m.move (sight_at m stim now) now.state)))
 
 below_by : {S : Type 0} (d t o : Bool) (x y z f : Turned S) → is_ending x.mark ≡ true → is_ending y.mark ≡ true
     → is_ending (cond d x (cond t y (cond o z f))).mark ≡ false → t ≡ false
@@ -124,12 +124,12 @@ saved_no_limit : (save : Option SaveKind) → is_limit (saved_mark save) ≡ is_
 saved_no_limit None = refl
 saved_no_limit (Some kind) = refl
 
-moved_by : {S : Type 0} (m : Machine S) (now : Moment S) (move : Move S) → stops move ≡ false → OnlyLimits (performed m now move)
-moved_by m now (go state text save) h = saved_no_limit save
-moved_by m now (stop ending) h = absurd (false≢true (sym h))
+moved_by : {S : Type 0} (m : Machine S) (stim : List ℕ) (now : Moment S) (move : Move S) → stops move ≡ false → OnlyLimits (performed m stim now move)
+moved_by m stim now (go state text save) h = saved_no_limit save
+moved_by m stim now (stop ending) h = absurd (false≢true (sym h))
 
 pub ends_by_limits : {S : Type 0} (m : Machine S) (stim : List ℕ) (limits : Limits) (now : Moment S) → GoesOn m (sight_at m stim now) now.state
     → is_limit (turn_of m stim limits now).mark ≡ is_ending (turn_of m stim limits now).mark
 ends_by_limits m stim limits now goes =
     limits_by (m.drained now.state) (nat_le limits.turns now.header.turns) (nat_lt limits.output (free_turn m stim now).after.header.written)
-    _ _ _ (performed m now (m.move (sight_at m stim now) now.state)) goes.event refl refl (moved_by m now (m.move (sight_at m stim now) now.state) goes.move)
+    _ _ _ (performed m stim now (m.move (sight_at m stim now) now.state)) goes.event refl refl (moved_by m stim now (m.move (sight_at m stim now) now.state) goes.move)

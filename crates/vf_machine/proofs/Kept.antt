@@ -3,7 +3,7 @@ use Rattle.std.proofs.Common.{◌≡◌, ℕ, zero, suc, ◌<◌, Bool, true, fa
 use Rattle.std.proofs.lemmas.Option.{get_or_from_slice_get}
 use Rattle.vf_base.specs.declared.run.Limits.{Limits}
 use Rattle.vf_machine.specs.Machine.{Machine, Move, go, stop, Sight}
-use Rattle.vf_machine.specs.Run.{Moment, moment_at, turn_of, free_turn, performed, sight_at}
+use Rattle.vf_machine.specs.Run.{Moment, moment_at, turn_of, free_turn, performed, reads_next, sight_at}
 use Rattle.vf_machine.specs.Laws.{IsStimulus}
 use Rattle.vf_machine.proofs.Runs.{moment_at-zero, moment_at-suc, branches, branches_free}
 
@@ -21,18 +21,18 @@ sees_by true byte h = h
 sees_by false byte h = tt
 
 pub sees_byte : {S : Type 0} (m : Machine S) (stim : List ℕ) (now : Moment S) → IsStimulus stim → SeesByte (sight_at m stim now)
-sees_byte m stim now bytes = sees_by (m.at_read now.state) (slice_get stim now.header.reads) (bytes now.header.reads)
+sees_byte m stim now bytes = sees_by (reads_next m stim now) (slice_get stim now.header.reads) (bytes now.header.reads)
 
-performed-kept : {S : Type 0} (P : S → Type 0) (m : Machine S) (now : Moment S) (move : Move S) → P now.state → KeptBy P move → P (performed m now move).after.state
-performed-kept P m now (go state text save) before kept = kept
-performed-kept P m now (stop ending) before kept = before
+performed-kept : {S : Type 0} (P : S → Type 0) (m : Machine S) (stim : List ℕ) (now : Moment S) (move : Move S) → P now.state → KeptBy P move → P (performed m stim now move).after.state
+performed-kept P m stim now (go state text save) before kept = kept
+performed-kept P m stim now (stop ending) before kept = before
 
 pub turn-kept : {S : Type 0} (P : S → Type 0) (m : Machine S) (stim : List ℕ) (limits : Limits) (now : Moment S)
     → P now.state → KeptBy P (m.move (sight_at m stim now) now.state) → P (turn_of m stim limits now).after.state
 turn-kept P m stim limits now before kept =
     branches (λ t. P t.after.state) (m.drained now.state) (nat_le limits.turns now.header.turns) (nat_lt limits.output (free_turn m stim now).after.header.written)
     _ _ _ _ before before before
-    (branches_free (λ t. P t.after.state) (m.drained now.state) _ _ before (performed-kept P m now (m.move (sight_at m stim now) now.state) before kept))
+    (branches_free (λ t. P t.after.state) (m.drained now.state) _ _ before (performed-kept P m stim now (m.move (sight_at m stim now) now.state) before kept))
 
 pub moments_kept : {S : Type 0} (P : S → Type 0) (m : Machine S) (stim : List ℕ) (limits : Limits)
     → IsStimulus stim → P m.start → ((sight : Sight) (s : S) → SeesByte sight → P s → KeptBy P (m.move sight s)) → (k : ℕ) → P (moment_at m stim limits k).state

@@ -2,10 +2,11 @@
 use Rattle.std.proofs.Common.{◌≡◌, ℕ, zero, suc, ◌+◌, ◌<◌, ◌≤◌, Bool, true, false, List, [], ◌∷◌, ◌++◌, length, take, None, cond, refl, sym, ◌∙◌, ap, ap₂, arith, ⊎_elim, nat_lt, slice_get}
 use Rattle.std.proofs.lemmas.Bool.{le-ltb, cases_lt}
 use Rattle.vf_base.specs.declared.run.Limits.{Limits}
-use Rattle.vf_machine.specs.Machine.{Machine}
-use Rattle.vf_machine.specs.Run.{Moment, Turned, moment_at, turn_at, free_turn, performed, sight_at, mark_at, is_limit}
+use Rattle.vf_machine.specs.declared.mark.Mark.TheVariants.{Ended}
+use Rattle.vf_machine.specs.Machine.{Machine, Move, go, stop}
+use Rattle.vf_machine.specs.Run.{Moment, Turned, moment_at, turn_at, free_turn, performed, counted, reads_next, sight_at, saved_mark, mark_at, is_limit}
 use Rattle.vf_machine.specs.Laws.{PrefixLaw}
-use Rattle.vf_machine.proofs.Runs.{moment_at-zero, moment_at-suc, text_at-zero, text_at-suc, unlimited, performed-reads, reads_grow}
+use Rattle.vf_machine.proofs.Runs.{moment_at-zero, moment_at-suc, text_at-zero, text_at-suc, unlimited, performed-reads, reads_grow, same_past, same_read}
 
 -- what lies below n is the same where the first n are
 slice_get-take : (a : List ℕ) (n i : ℕ) → i < n → slice_get (take n a) i ≡ slice_get a i
@@ -24,11 +25,18 @@ same_byte true a b n i e h = same_below a b n i e (omega arith)
 same_byte false a b n i e h = refl
 
 same_sight : {S : Type 0} (m : Machine S) (a b : List ℕ) (now : Moment S) (n : ℕ) → n ≤ length a → n ≤ length b → take n a ≡ take n b
-    → now.header.reads + cond (m.at_read now.state) 1 0 ≤ n → sight_at m a now ≡ sight_at m b now
+    → now.header.reads + cond (reads_next m a now) 1 0 ≤ n → sight_at m a now ≡ sight_at m b now
 same_sight m a b now n la lb e h =
-    let byte = same_byte (m.at_read now.state) a b n now.header.reads e h in
-    let past : nat_lt (length a) now.header.reads ≡ nat_lt (length b) now.header.reads = le-ltb (length a) now.header.reads (omega arith) ∙ sym (le-ltb (length b) now.header.reads (omega arith)) in
+    let past = same_past a b now (omega arith) (omega arith) in
+    let byte =
+    same_byte (reads_next m a now) a b n now.header.reads e h
+    ∙ ap (λ r. cond (m.at_read r now.state) (slice_get b now.header.reads) None) past in
     λ i. record { byte = byte i; past_end = past i }
+
+same_performed : {S : Type 0} (m : Machine S) (a b : List ℕ) (now : Moment S) (move : Move S) → reads_next m a now ≡ reads_next m b now → performed m a now move ≡ performed m b now move
+same_performed m a b now (go state text save) same =
+    ap (λ r. record { after = record { state = state; header = counted now r (length text) }; text = text; mark = saved_mark save }) same
+same_performed m a b now (stop ending) same = ap (λ r. record { after = record { state = now.state; header = counted now r 0 }; text = []; mark = Ended ending }) same
 
 same_free_by : {S : Type 0} (d : Bool) (x p q : Turned S) (n : ℕ) → (cond d x p).after.header.reads ≤ n
     → (p.after.header.reads ≤ n → p ≡ q) → cond d x p ≡ cond d x q
@@ -40,8 +48,10 @@ pub same_free : {S : Type 0} (m : Machine S) (a b : List ℕ) (now : Moment S) (
     → (free_turn m a now).after.header.reads ≤ n → free_turn m a now ≡ free_turn m b now
 same_free m a b now n la lb e h =
     same_free_by (m.drained now.state) _ _ _ n h
-    (λ within. ap (λ sight. performed m now (m.move sight now.state))
-    (same_sight m a b now n la lb e (omega (arith, performed-reads m now (m.move (sight_at m a now) now.state)))))
+    (λ after.
+    let reads = performed-reads m a now (m.move (sight_at m a now) now.state) in
+    ap (λ sight. performed m a now (m.move sight now.state)) (same_sight m a b now n la lb e (omega (arith, after, reads)))
+    ∙ same_performed m a b now (m.move (sight_at m b now) now.state) (same_read m a b now (omega (arith, after, reads, la)) (omega (arith, after, reads, lb))))
 
 -- a turn after moments that are the same
 same_turn : {S : Type 0} (m : Machine S) (a b : List ℕ) (la lb : Limits) (n k : ℕ) → n ≤ length a → n ≤ length b → take n a ≡ take n b

@@ -1,11 +1,11 @@
 -- Moments of a run, one turn after another.
-use Rattle.std.proofs.Common.{◌≡◌, ℕ, zero, suc, ◌+◌, ◌<◌, ◌≤◌, Bool, true, false, List, [], ◌++◌, cond, refl, sym, ◌∙◌, ap, arith, nat_lt, nat_le}
+use Rattle.std.proofs.Common.{◌≡◌, ℕ, zero, suc, ◌+◌, ◌<◌, ◌≤◌, Bool, true, false, List, [], ◌++◌, length, cond, refl, sym, ◌∙◌, ap, arith, nat_lt, nat_le}
 use Rattle.std.proofs.lemmas.Bool.{false≢true, le-ltb, lt-leb}
 use Rattle.vf_base.specs.declared.run.Limits.{Limits}
 use Rattle.vf_machine.specs.declared.mark.Mark.{Mark}
 use Rattle.vf_machine.specs.declared.mark.Mark.TheVariants.{Plain, Saved, Ended}
 use Rattle.vf_machine.specs.Machine.{Machine, Move, go, stop}
-use Rattle.vf_machine.specs.Run.{Moment, Turned, moment_at, text_at, turn_at, turn_of, free_turn, performed, sight_at, at_zero, is_limit, is_ending}
+use Rattle.vf_machine.specs.Run.{Moment, Turned, moment_at, text_at, turn_at, turn_of, free_turn, performed, has_read_past, reads_next, sight_at, at_zero, is_limit, is_ending}
 
 pub moment_at-zero : {S : Type 0} (m : Machine S) (stim : List ℕ) (limits : Limits) → moment_at m stim limits 0 ≡ at_zero m
 unfolding moment_at
@@ -47,13 +47,20 @@ pub unlimited : {S : Type 0} (m : Machine S) (stim : List ℕ) (limits : Limits)
     → is_limit (turn_of m stim limits now).mark ≡ false → turn_of m stim limits now ≡ free_turn m stim now
 unlimited m stim limits now h =
     unlimited_by (m.drained now.state) (nat_le limits.turns now.header.turns) (nat_lt limits.output (free_turn m stim now).after.header.written)
-    _ _ _ (performed m now (m.move (sight_at m stim now) now.state)) refl refl h
+    _ _ _ (performed m stim now (m.move (sight_at m stim now) now.state)) refl refl h
 
 -- a performed turn counts its read
-pub performed-reads : {S : Type 0} (m : Machine S) (now : Moment S) (move : Move S)
-    → (performed m now move).after.header.reads ≡ now.header.reads + cond (m.at_read now.state) 1 0
-performed-reads m now (go state text save) = refl
-performed-reads m now (stop ending) = refl
+pub performed-reads : {S : Type 0} (m : Machine S) (stim : List ℕ) (now : Moment S) (move : Move S)
+    → (performed m stim now move).after.header.reads ≡ now.header.reads + cond (reads_next m stim now) 1 0
+performed-reads m stim now (go state text save) = refl
+performed-reads m stim now (stop ending) = refl
+
+-- where no read has gone past the end of either stimulus, the next turn reads both or neither
+pub same_past : {S : Type 0} (a b : List ℕ) (now : Moment S) → now.header.reads ≤ length a → now.header.reads ≤ length b → has_read_past a now ≡ has_read_past b now
+same_past a b now ha hb = le-ltb (length a) now.header.reads ha ∙ sym (le-ltb (length b) now.header.reads hb)
+
+pub same_read : {S : Type 0} (m : Machine S) (a b : List ℕ) (now : Moment S) → now.header.reads ≤ length a → now.header.reads ≤ length b → reads_next m a now ≡ reads_next m b now
+same_read m a b now ha hb = ap (λ past. m.at_read past now.state) (same_past a b now ha hb)
 
 -- reads never fall
 abbrev Keeps : {S : Type 0} → Moment S → Turned S → Type 0
@@ -61,7 +68,7 @@ Keeps now t = now.header.reads ≤ t.after.header.reads
 
 free_turn-reads : {S : Type 0} (m : Machine S) (stim : List ℕ) (now : Moment S) → now.header.reads ≤ (free_turn m stim now).after.header.reads
 free_turn-reads m stim now =
-    branches_free (Keeps now) (m.drained now.state) _ _ (omega arith) (omega (arith, performed-reads m now (m.move (sight_at m stim now) now.state)))
+    branches_free (Keeps now) (m.drained now.state) _ _ (omega arith) (omega (arith, performed-reads m stim now (m.move (sight_at m stim now) now.state)))
 
 pub reads_grow : {S : Type 0} (m : Machine S) (stim : List ℕ) (limits : Limits) (now : Moment S) → now.header.reads ≤ (turn_of m stim limits now).after.header.reads
 reads_grow m stim limits now =
@@ -81,19 +88,19 @@ reads_once m stim limits now =
     branches (ReadsOnce now) (m.drained now.state) (nat_le limits.turns now.header.turns) (nat_lt limits.output (free_turn m stim now).after.header.written)
     _ _ _ _ (omega arith) (omega arith) (omega arith)
     (branches_free (ReadsOnce now) (m.drained now.state) _ _ (omega arith)
-    (omega (arith, performed-reads m now (m.move (sight_at m stim now) now.state), once (m.at_read now.state))))
+    (omega (arith, performed-reads m stim now (m.move (sight_at m stim now) now.state), once (reads_next m stim now))))
 
 -- no turn lowers the bytes written
 abbrev Writes : {S : Type 0} → Moment S → Turned S → Type 0
 Writes now t = now.header.written ≤ t.after.header.written
 
-performed-writes : {S : Type 0} (m : Machine S) (now : Moment S) (move : Move S) → Writes now (performed m now move)
-performed-writes m now (go state text save) = omega arith
-performed-writes m now (stop ending) = omega arith
+performed-writes : {S : Type 0} (m : Machine S) (stim : List ℕ) (now : Moment S) (move : Move S) → Writes now (performed m stim now move)
+performed-writes m stim now (go state text save) = omega arith
+performed-writes m stim now (stop ending) = omega arith
 
 pub free_turn-writes : {S : Type 0} (m : Machine S) (stim : List ℕ) (now : Moment S) → now.header.written ≤ (free_turn m stim now).after.header.written
 free_turn-writes m stim now =
-    branches_free (Writes now) (m.drained now.state) _ _ (omega arith) (performed-writes m now (m.move (sight_at m stim now) now.state))
+    branches_free (Writes now) (m.drained now.state) _ _ (omega arith) (performed-writes m stim now (m.move (sight_at m stim now) now.state))
 
 pub written_grows : {S : Type 0} (m : Machine S) (stim : List ℕ) (limits : Limits) (now : Moment S) → now.header.written ≤ (turn_of m stim limits now).after.header.written
 written_grows m stim limits now =
@@ -134,7 +141,7 @@ pub within_limits : {S : Type 0} (m : Machine S) (stim : List ℕ) (limits : Lim
     → (free_turn m stim now).after.header.written ≤ limits.output → turn_of m stim limits now ≡ free_turn m stim now
 within_limits m stim limits now t o =
     within_by (m.drained now.state) (nat_le limits.turns now.header.turns) (nat_lt limits.output (free_turn m stim now).after.header.written)
-    _ _ _ (performed m now (m.move (sight_at m stim now) now.state))
+    _ _ _ (performed m stim now (m.move (sight_at m stim now) now.state))
     (lt-leb limits.turns now.header.turns t) (le-ltb limits.output (free_turn m stim now).after.header.written o)
 
 -- a turn that goes on was ended by no limit

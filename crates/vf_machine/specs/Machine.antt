@@ -20,10 +20,11 @@ stops (go state text save) = false
 stops (stop ending) = true
 
 -- A machine over states S: its state at time zero, whether no event is left, whether the next turn reads the
--- stimulus, what a turn does, and the 64-bit words of a state, of which 64 are a page.
+-- stimulus, which may depend on whether a read has gone past the end, what a turn does, and the 64-bit words of a
+-- state, of which 64 are a page.
 pub record Machine (S : Type 0) : Type 0 where
   pub start : S
   pub drained : S → Bool
-  pub at_read : S → Bool
+  pub at_read : Bool → S → Bool
   pub move : Sight → S → Move S
   pub words : S → List ℕ

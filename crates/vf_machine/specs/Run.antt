@@ -24,34 +24,42 @@ abbrev pub saved_mark : Option SaveKind → Mark
 saved_mark None = Plain
 saved_mark (Some kind) = Saved kind
 
+-- whether a read has gone past the end of the stimulus
+abbrev pub has_read_past : {S : Type 0} → List ℕ → Moment S → Bool
+has_read_past stim now = nat_lt (length stim) now.header.reads
+
+-- whether the next turn reads the stimulus
+abbrev pub reads_next : {S : Type 0} → Machine S → List ℕ → Moment S → Bool
+reads_next m stim now = m.at_read (has_read_past stim now) now.state
+
 -- the next byte is seen only by a turn that reads
 abbrev pub sight_at : {S : Type 0} → Machine S → List ℕ → Moment S → Sight
 sight_at m stim now = record {
-  byte = if m.at_read now.state then slice_get stim now.header.reads else None;
-  past_end = nat_lt (length stim) now.header.reads;
+  byte = if reads_next m stim now then slice_get stim now.header.reads else None;
+  past_end = has_read_past stim now;
 }
 
 -- an ending that performs no turn
 abbrev pub ended_before : {S : Type 0} → Moment S → Ending → Turned S
 ended_before now ending = record { after = now; text = []; mark = Ended ending }
 
--- what a performed turn counts: itself, its read, and the bytes that it wrote
-abbrev pub counted : {S : Type 0} → Machine S → Moment S → ℕ → Header
-counted m now bytes = record {
+-- what a performed turn counts: itself, its read if it reads, and the bytes that it wrote
+abbrev pub counted : {S : Type 0} → Moment S → Bool → ℕ → Header
+counted now reads bytes = record {
   turns = now.header.turns + 1;
-  reads = now.header.reads + (if m.at_read now.state then 1 else 0);
+  reads = now.header.reads + (if reads then 1 else 0);
   written = now.header.written + bytes;
 }
 
 -- a turn that the machine performs; one that ends the run changes no state and writes nothing
-abbrev pub performed : {S : Type 0} → Machine S → Moment S → Move S → Turned S
-performed m now (go state text save) = record {
-  after = record { state = state; header = counted m now (length text) };
+abbrev pub performed : {S : Type 0} → Machine S → List ℕ → Moment S → Move S → Turned S
+performed m stim now (go state text save) = record {
+  after = record { state = state; header = counted now (reads_next m stim now) (length text) };
   text = text;
   mark = saved_mark save;
 }
-performed m now (stop ending) = record {
-  after = record { state = now.state; header = counted m now 0 };
+performed m stim now (stop ending) = record {
+  after = record { state = now.state; header = counted now (reads_next m stim now) 0 };
   text = [];
   mark = Ended ending;
 }
@@ -67,7 +75,7 @@ cut_off now = record {
 -- the next turn where no limit stands
 abbrev pub free_turn : {S : Type 0} → Machine S → List ℕ → Moment S → Turned S
 free_turn m stim now =
-    if m.drained now.state then ended_before now Drained else performed m now (m.move (sight_at m stim now) now.state)
+    if m.drained now.state then ended_before now Drained else performed m stim now (m.move (sight_at m stim now) now.state)
 
 -- The next turn under limits. That no event is left is tried before the limit on turns; neither counts a turn. A
 -- turn that would pass the limit on bytes written is the ending Output instead.

@@ -10,7 +10,7 @@ use Rattle.vf_base.specs.declared.run.Limits.{Limits}
 use Rattle.vf_base.specs.declared.run.SaveKind.{SaveKind}
 use Rattle.vf_machine.specs.declared.mark.Mark.TheVariants as marks
 use Rattle.vf_machine.specs.Machine.{Machine, Move, go, stop}
-use Rattle.vf_machine.specs.Run.{Moment, Turned, moment_at, mark_at, turn_of, free_turn, performed, sight_at, is_ending}
+use Rattle.vf_machine.specs.Run.{Moment, Turned, moment_at, mark_at, turn_of, free_turn, performed, reads_next, sight_at, is_ending}
 use Rattle.vf_machine.specs.Solo.{turns_before_end}
 use Rattle.vf_machine.proofs.CallerLemmas.{moment_at-zero, moment_at-suc, reads_once, first_is, run_ends_lem, counts_once, performed-reads}
 use Rattle.vf_design.specs.declared.turn.Turn.{Turn}
@@ -28,7 +28,7 @@ use Rattle.vf_run.specs.declared.stop.Stop.{Stop}
 use Rattle.vf_run.specs.declared.stop.Stop.TheVariants.{AtSave, ReadPast, Ended, Short, Memory}
 use Rattle.vf_run.specs.Stops.{Stops, HasKept, TokenAt, IsUnsaved, IsAnswer, misses_after, reads_in}
 use Rattle.vf_image.specs.Runs.{stimulus_of, limits_for, last_save, moment_in, touched_in, IsAt, IsSavedAt, GoesPast}
-use Rattle.vf_image.specs.Simulators.{Simulator, IsSimulator, IsNext, contents}
+use Rattle.vf_image.specs.Simulators.{Simulator, IsSimulator, IsNext, contents, is_past_end}
 use Rattle.vf_image.specs.Standing.{IsAtSave, IsPassing, IsEnding, Needs}
 use Rattle.vf_image.specs.Calls.{Stayed}
 
@@ -150,10 +150,10 @@ reads_by false false true x y z p n hx hy hz hp h = absurd (false≢true (sym h 
 reads_by false false false x y z p n hx hy hz hp h = hp
 
 reads_counted : {S : Type 0} (m : Machine S) (stim : List ℕ) (limits : Limits) (now : Moment S) → is_ending (turn_of m stim limits now).mark ≡ false
-    → (turn_of m stim limits now).after.header.reads ≡ now.header.reads + cond (m.at_read now.state) 1 0
+    → (turn_of m stim limits now).after.header.reads ≡ now.header.reads + cond (reads_next m stim now) 1 0
 reads_counted m stim limits now h =
     reads_by (m.drained now.state) (nat_le limits.turns now.header.turns) (nat_lt limits.output (free_turn m stim now).after.header.written) _ _ _ _ _ refl refl refl
-    (performed-reads m now (m.move (sight_at m stim now) now.state)) h
+    (performed-reads m stim now (m.move (sight_at m stim now) now.state)) h
 
 more_by : (r : Bool) (before after : ℕ) → after ≡ before + cond r 1 0 → nat_lt before after ≡ r
 more_by true before after e = lt-ltb before after (omega (arith, e))
@@ -166,21 +166,24 @@ reads_told s turn sim next goes_on =
     let counted = reads_counted m (stimulus_of s.setup s.job) (limits_for s.setup s.job) now (ap is_ending (sym next.mark) ∙ goes_on) in
     let before = ap (λ (h : Header). h.reads) sim.at.run.counts in
     let after = ap (λ (h : Header). h.reads) next.header in
-    more_by (m.at_read now.state) s.header.reads turn.header.reads (after ∙ counted ∙ ap (λ n. n + cond (m.at_read now.state) 1 0) (sym before))
+    more_by (reads_in s) s.header.reads turn.header.reads (after ∙ counted ∙ ap (λ n. n + cond (reads_in s) 1 0) (sym before))
 
 -- what the kernel says of the design's next turn, for this simulator
 pub reads_is : (s : Simulator) (design : Program) (answer : Bool) → IsSimulator s → design ≡ s.setup.design
-    → ((t : State) → IsSound design t → words_of design t ≡ contents s → answer ≡ (machine_of design).at_read t) → answer ≡ reads_in s
+    → ((t : State) → IsSound design t → words_of design t ≡ contents s → answer ≡ (machine_of design).at_read (is_past_end s) t) → answer ≡ reads_in s
 reads_is s design answer sim design_is said =
-    let d = subst (λ (p : Program). (t : State) → IsSound p t → words_of p t ≡ contents s → answer ≡ (machine_of p).at_read t) design_is said in
-    d (moment_in s.setup s.job s.header.turns).state (sim.sound s.header.turns (omega arith)) refl
+    let now = moment_in s.setup s.job s.header.turns in
+    let d = subst (λ (p : Program). (t : State) → IsSound p t → words_of p t ≡ contents s → answer ≡ (machine_of p).at_read (is_past_end s) t) design_is said in
+    d now.state (sim.sound s.header.turns (omega arith)) refl
+    ∙ ap (λ (h : Header). (machine_of s.setup.design).at_read (nat_lt (length (stimulus_of s.setup s.job)) h.reads) now.state) sim.at.run.counts
 
 pub answer_unread : (s : Simulator) (node : NodeNo) (answer : Bool) → IsSimulator s → s.job ≡ Reach node → (s.header.reads ≡ length (stimulus_of s.setup s.job) → ⊥) → answer ≡ false
     → IsAnswer s.setup s.job s.header.turns answer
 answer_unread s node answer sim job ne e =
     let m = machine_of s.setup.design in
-    let state = (moment_at m (stimulus_of s.setup (Reach node)) (limits_for s.setup (Reach node)) s.header.turns).state in
-    subst (λ j. IsAnswer s.setup j s.header.turns answer) (sym job) (e ∙ sym (ap (λ r. r && m.at_read state) (differs s node sim job ne)))
+    let stim = stimulus_of s.setup (Reach node) in
+    let now = moment_at m stim (limits_for s.setup (Reach node)) s.header.turns in
+    subst (λ j. IsAnswer s.setup j s.header.turns answer) (sym job) (e ∙ sym (ap (λ r. r && reads_next m stim now) (differs s node sim job ne)))
 
 pub answer_read : (s : Simulator) (node : NodeNo) (answer : Bool) → IsSimulator s → s.job ≡ Reach node → s.header.reads ≡ length (stimulus_of s.setup s.job) → answer ≡ reads_in s
     → IsAnswer s.setup s.job s.header.turns answer
@@ -224,16 +227,16 @@ counted_by false true o x y z p n hx hy hz hp = hy
 counted_by false false true x y z p n hx hy hz hp = hz refl
 counted_by false false false x y z p n hx hy hz hp = hp refl
 
-performed-turns : {S : Type 0} (m : Machine S) (now : Moment S) (move : Move S) → (performed m now move).after.header.turns ≡ now.header.turns + 1
-performed-turns m now (go state text save) = refl
-performed-turns m now (stop ending) = refl
+performed-turns : {S : Type 0} (m : Machine S) (stim : List ℕ) (now : Moment S) (move : Move S) → (performed m stim now move).after.header.turns ≡ now.header.turns + 1
+performed-turns m stim now (go state text save) = refl
+performed-turns m stim now (stop ending) = refl
 
 -- no turn counts beyond the limit on turns
 counted_within : {S : Type 0} (m : Machine S) (stim : List ℕ) (limits : Limits) (now : Moment S) → now.header.turns ≤ limits.turns → (turn_of m stim limits now).after.header.turns ≤ limits.turns
 counted_within m stim limits now h =
     counted_by (m.drained now.state) (nat_le limits.turns now.header.turns) (nat_lt limits.output (free_turn m stim now).after.header.written) _ _ _ _ limits.turns h h
     (λ t. let less = leb-false limits.turns now.header.turns t in omega (arith, less))
-    (λ t. let less = leb-false limits.turns now.header.turns t in let one = performed-turns m now (m.move (sight_at m stim now) now.state) in omega (arith, less, one))
+    (λ t. let less = leb-false limits.turns now.header.turns t in let one = performed-turns m stim now (m.move (sight_at m stim now) now.state) in omega (arith, less, one))
 
 pub record Counted (s : Simulator) (turns : ℕ) : Type 0 where
   pub once : (s.header.turns ≤ turns) × (turns ≤ s.header.turns + 1)

@@ -3,6 +3,7 @@ use Rattle.std.specs.Prelude.{◌≡◌, ℕ, ◌+◌, Bool, true, false, List, 
 use Rattle.vf_base.specs.declared.names.Job.{Job}
 use Rattle.vf_base.specs.declared.names.Job.TheVariants.{Reach, Finish}
 use Rattle.vf_base.specs.declared.names.NodeNo.{NodeNo}
+use Rattle.vf_machine.specs.Run.{reads_next}
 use Rattle.vf_design.specs.declared.turn.Turn.{Turn}
 use Rattle.vf_design.specs.Words.{machine_of}
 use Rattle.vf_jobs.specs.Kinds.{save_at, is_passed}
@@ -81,4 +82,4 @@ IsAnswer c (Reach node) k answer = answer ≡ is_passed (machine_of c.design) (s
 
 -- whether the next turn reads the stimulus
 abbrev pub reads_in : Simulator → Bool
-reads_in s = (machine_of s.setup.design).at_read (moment_in s.setup s.job s.header.turns).state
+reads_in s = reads_next (machine_of s.setup.design) (stimulus_of s.setup s.job) (moment_in s.setup s.job s.header.turns)
