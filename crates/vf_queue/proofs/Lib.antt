@@ -6,3 +6,4 @@ mod FutureLemmas
 mod KeptLemmas
 mod DelayLemmas
 mod RegionLemmas
+mod SlotLemmas

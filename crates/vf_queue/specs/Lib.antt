@@ -3,3 +3,4 @@ pub mod Holding
 pub mod Future
 pub mod Moves
 pub mod Updates
+pub mod Slots

@@ -11,6 +11,7 @@ mod delays;
 mod future;
 mod lists;
 mod regions;
+mod slots;
 mod threads;
 mod update;
 mod writes;
