@@ -88,3 +88,10 @@ has_value words width at bits long h =
       ones = subst (λ n. n < 2 ^ width) (sym planes.ones) (subst (λ n. ones_of bits < 2 ^ n) long (weight_small in_ones bits ones_small));
       unknown = subst (λ n. n < 2 ^ width) (sym planes.unknown) (subst (λ n. unknown_of bits < 2 ^ n) long (weight_small in_unknown bits unknown_small));
     }
+
+-- the planes of a value have no bit above its width
+pub ones_below : (bits : List Bit) → ones_of bits < 2 ^ length bits
+ones_below bits = weight_small in_ones bits ones_small
+
+pub unknown_below : (bits : List Bit) → unknown_of bits < 2 ^ length bits
+unknown_below bits = weight_small in_unknown bits unknown_small

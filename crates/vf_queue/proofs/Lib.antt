@@ -7,3 +7,4 @@ mod KeptLemmas
 mod DelayLemmas
 mod RegionLemmas
 mod SlotLemmas
+mod UpdateLemmas

@@ -1,17 +1,20 @@
-ghost use Rattle.std.specs.Prelude.{◌≡◌, ◌+◌, ◌<◌, ◌≤◌, ℕ, length, take, slice_index, slice_set, OnOk, IfOk};
+ghost use Rattle.std.specs.Prelude.{◌≡◌, ◌∷◌, ◌+◌, ◌/◌, ◌%◌, ◌^◌, ◌<◌, ◌≤◌, ℕ, length, take, slice_index, slice_set, OnOk, IfOk};
 ghost use Rattle.vf_machine.specs.Writes.{written};
-ghost use Rattle.vf_elaborated.specs.Addresses.{word_count, slot_at, slot_size};
+ghost use Rattle.vf_elaborated.specs.Addresses.{word_count, slot_at, slot_size, has_wide};
 ghost use Rattle.vf_scheduler.specs.State.{State};
 ghost use Rattle.vf_scheduler.specs.Posting.{strobe};
-ghost use Rattle.vf_scheduler.specs.Sound.{IsSound};
+ghost use Rattle.vf_scheduler.specs.Sound.{IsSound, IsUpdate};
+ghost use Rattle.vf_scheduler.specs.Words.{update_words};
 ghost use Rattle.vf_layout.specs.Puts.{put_all};
 ghost use Rattle.vf_queue.specs.Writing.{Writes};
 ghost use Rattle.vf_queue.specs.Holding.{Holds, IsUnderway};
 ghost use Rattle.vf_queue.specs.Moves.{IsMove};
 ghost use Rattle.vf_queue.specs.Slots.{IsLeastFree};
+ghost use Rattle.vf_queue.specs.Updates.{update_of};
 
 use crate::addresses::STROBES;
 use crate::lists::join;
+use crate::update::Update;
 use crate::writes::put;
 use vf_base::{Ending, Memory};
 use vf_elaborated::Design;
@@ -71,6 +74,45 @@ pub fn strobe<W: Words>(design: &Design, words: &W, patch: &mut Patch, show: u32
     put_slot(design, words, patch, slot, [STROBE, 0, 0, u64::from(show), 0, 0, 0, 0, 0, 0])?;
     join(design, words, patch, STROBES, number(design, slot))?;
     Ok(None)
+}
+
+/// A slot takes an update: one of now, or of a time of the future.
+fn put_update<W: Words>(design: &Design, words: &W, patch: &mut Patch, slot: u32, kind: u64, time: u64, update: &Update) -> Result<(), Memory>
+    requires long { length (W.contents words.now) ≡ word_count design.now }
+    requires slot { slot < design.now.slots }
+    requires fits { IsUpdate design.now (update_of update.now) }
+    ensures { OnOk result (Writes (W.contents words.now) (put_all (slot_at design.now slot) (kind ∷ 0 ∷ time ∷ update_words (has_wide design.now) (update_of update.now))) patch.old patch.new) }
+{
+    let place = u64::from(update.low) * 256 + u64::from(update.value.width());
+    let ones = update.value.ones();
+    let unknown = update.value.unknown();
+    let all = [
+        kind,
+        0,
+        time,
+        u64::from(update.sig.0),
+        u64::from(update.element),
+        place,
+        low_half(ones),
+        low_half(unknown),
+        high_half(ones),
+        high_half(unknown),
+    ];
+    put_slot(design, words, patch, slot, all)
+}
+
+/// The low 64 bits.
+fn low_half(plane: u128) -> u64
+    ensures { result ≡ plane % 2 ^ 64 }
+{
+    (plane % (1 << 64)) as u64
+}
+
+/// The bits above.
+fn high_half(plane: u128) -> u64
+    ensures { result ≡ plane / 2 ^ 64 }
+{
+    (plane / (1 << 64)) as u64
 }
 
 /// Writes what a slot holds: 8 words, or 10 where some signal is above 64 bits.
