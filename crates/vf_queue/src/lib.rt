@@ -10,6 +10,7 @@ mod addresses;
 mod delays;
 mod future;
 mod lists;
+mod posts;
 mod regions;
 mod slots;
 mod threads;

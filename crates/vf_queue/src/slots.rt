@@ -77,7 +77,7 @@ pub fn strobe<W: Words>(design: &Design, words: &W, patch: &mut Patch, show: u32
 }
 
 /// A slot takes an update: one of now, or of a time of the future.
-fn put_update<W: Words>(design: &Design, words: &W, patch: &mut Patch, slot: u32, kind: u64, time: u64, update: &Update) -> Result<(), Memory>
+pub fn put_update<W: Words>(design: &Design, words: &W, patch: &mut Patch, slot: u32, kind: u64, time: u64, update: &Update) -> Result<(), Memory>
     requires long { length (W.contents words.now) ≡ word_count design.now }
     requires slot { slot < design.now.slots }
     requires fits { IsUpdate design.now (update_of update.now) }
@@ -133,7 +133,7 @@ fn slot_size(design: &Design) -> usize
 }
 
 /// The number of a slot as an event: the processes are numbered first.
-fn number(design: &Design, slot: u32) -> u32
+pub fn number(design: &Design, slot: u32) -> u32
     requires { slot < design.now.slots }
     ensures { result ≡ length design.now.processes + slot }
 {
