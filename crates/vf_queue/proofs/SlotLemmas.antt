@@ -1,7 +1,7 @@
 -- Which slots are free, in words.
-use Rattle.std.proofs.Common.{◌≡◌, ◌≢◌, ℕ, zero, suc, ◌+◌, ◌<◌, ◌≤◌, Bool, true, false, cond, List, [], ◌∷◌, ◌++◌, length, take, replicate, Option, Some, None, refl, sym, ◌∙◌, ap, subst, arith, ⊎_elim, if◌then◌else◌, slice_index, slice_index_or, slice_set}
+use Rattle.std.proofs.Common.{◌≡◌, ◌≢◌, ℕ, zero, suc, ◌+◌, ◌<◌, ◌≤◌, Bool, true, false, cond, List, [], ◌∷◌, ◌++◌, length, take, drop, replicate, Option, Some, None, refl, sym, ◌∙◌, ap, subst, arith, ⊎_elim, if◌then◌else◌, slice_index, slice_index_or, slice_set}
 use Rattle.std.proofs.lemmas.Bool.{cases_eq, eq-eqb, ne_eqb, false≢true}
-use Rattle.std.proofs.lemmas.List.{length-set, get_or-set_same, get_or-set_other}
+use Rattle.std.proofs.lemmas.List.{length-set, drop_at, drop_all, get_or-set_same, get_or-set_other}
 use Rattle.std.specs.List.{count_by}
 use Rattle.std.proofs.lemmas.List.Sums.{position_or_len_is, passes_at_first}
 use Rattle.std.proofs.lemmas.List.Recursion.{is_count_by}
@@ -85,7 +85,7 @@ pub least_is : (s : State) (q : ℕ) → NoneFree s q → q < length s.slots →
 least_is s q none below free =
     (sym (position_or_len_is is_free s.slots q Free (omega (arith, below)) none (λ there. free)), below)
 
-abbrev counted : List Slot → ℕ
+abbrev pub counted : List Slot → ℕ
 counted [] = 0
 counted (slot ∷ slots) = cond (is_free slot) (1 + counted slots) (counted slots)
 
@@ -205,3 +205,31 @@ module _ (show : ℕ) (s : State) where
   unfolding strobe
   some_strobed below =
       ap (λ b. if b then stop endings.Events else go strobed [] None) (ne_eqb (free_slots s) 0 (λ none. omega (arith, none, some_free s below)))
+
+-- ---- how many slots are free
+
+pub counted_is : (s : State) → counted s.slots ≡ free_slots s
+counted_is s = is_count_by counted is_free refl (λ x xs. refl) s.slots
+
+pub one_counted : (s : State) (q count : ℕ) → q < length s.slots → is_free (slot_of s q) ≡ true → count + counted (drop q s.slots) ≡ counted s.slots
+    → count + 1 + counted (drop (q + 1) s.slots) ≡ counted s.slots
+one_counted s q count below free so_far =
+    let here = ap counted (drop_at s.slots q Free below) ∙ ap (λ b. cond b (1 + counted (drop (q + 1) s.slots)) (counted (drop (q + 1) s.slots))) free in
+    omega (arith, so_far, here)
+
+pub none_counted : (s : State) (q count : ℕ) → q < length s.slots → is_free (slot_of s q) ≡ false → count + counted (drop q s.slots) ≡ counted s.slots
+    → count + counted (drop (q + 1) s.slots) ≡ counted s.slots
+none_counted s q count below held so_far =
+    let here = ap counted (drop_at s.slots q Free below) ∙ ap (λ b. cond b (1 + counted (drop (q + 1) s.slots)) (counted (drop (q + 1) s.slots))) held in
+    omega (arith, so_far, here)
+
+pub all_counted : (s : State) (q count : ℕ) → length s.slots ≤ q → count + counted (drop q s.slots) ≡ counted s.slots → count ≡ free_slots s
+all_counted s q count past so_far = let none = ap counted (drop_all s.slots q past) in omega (arith, so_far, none, counted_is s)
+
+pub few_counted : (slots : List Slot) → counted slots ≤ length slots
+few_counted [] = omega arith
+few_counted (slot ∷ slots) = by (is_free slot) (few_counted slots)
+  where
+    by : (b : Bool) → counted slots ≤ length slots → cond b (1 + counted slots) (counted slots) ≤ 1 + length slots
+    by true few = omega (arith, few)
+    by false few = omega (arith, few)

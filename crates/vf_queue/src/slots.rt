@@ -2,14 +2,14 @@ ghost use Rattle.std.specs.Prelude.{◌≡◌, ◌∷◌, ◌+◌, ◌/◌, ◌%
 ghost use Rattle.vf_machine.specs.Writes.{written};
 ghost use Rattle.vf_elaborated.specs.Addresses.{word_count, slot_at, slot_size, has_wide};
 ghost use Rattle.vf_scheduler.specs.State.{State};
-ghost use Rattle.vf_scheduler.specs.Posting.{strobe};
+ghost use Rattle.vf_scheduler.specs.Posting.{free_slots, strobe};
 ghost use Rattle.vf_scheduler.specs.Sound.{IsSound, IsUpdate};
 ghost use Rattle.vf_scheduler.specs.Words.{update_words};
 ghost use Rattle.vf_layout.specs.Puts.{put_all};
 ghost use Rattle.vf_queue.specs.Writing.{Writes};
 ghost use Rattle.vf_queue.specs.Holding.{Holds, IsUnderway};
 ghost use Rattle.vf_queue.specs.Moves.{IsMove};
-ghost use Rattle.vf_queue.specs.Slots.{IsLeastFree};
+ghost use Rattle.vf_queue.specs.Slots.{IsLeastFree, IsTooLate};
 ghost use Rattle.vf_queue.specs.Updates.{update_of};
 
 use crate::addresses::STROBES;
@@ -59,6 +59,32 @@ pub fn least_free<W: Words>(design: &Design, words: &W, patch: &Patch) -> Option
         }
     }
     None
+}
+
+/// Why a posting of so many updates at a time that does not fit 64 bits ends the run: first too few slots, then the time.
+pub fn too_late<W: Words>(design: &Design, words: &W, patch: &Patch, count: usize) -> Ending
+    requires { IsUnderway design.now (W.contents words.now) patch.now }
+    ensures { (s : State) → IsSound design.now s → Holds design.now (W.contents words.now) patch.now s → IsTooLate s count result }
+{
+    if free_slots(design, words, patch) < count {
+        Ending::Events
+    } else {
+        Ending::Time
+    }
+}
+
+/// How many slots are free.
+fn free_slots<W: Words>(design: &Design, words: &W, patch: &Patch) -> usize
+    requires { IsUnderway design.now (W.contents words.now) patch.now }
+    ensures { (s : State) → IsSound design.now s → Holds design.now (W.contents words.now) patch.now s → result ≡ free_slots s }
+{
+    let mut count = 0;
+    for slot in 0..design.slots {
+        if patch.read(words, design.slot_at(slot)) == 0 {
+            count += 1;
+        }
+    }
+    count
 }
 
 /// `$strobe` of a show (IEEE Std 1364-2005, 17.1.2): it takes the least free slot, and prints at the end of this time step.

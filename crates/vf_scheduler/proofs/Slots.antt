@@ -109,12 +109,12 @@ module _ (d : Elaborated) (s : State) (h : Held d s) (free : 1 ≤ free_slots s)
   }
 
   -- what one update leaves
-  record Posted (delay : ℕ) (next : State) : Type 0 where
-    keeps : Held d next
-    left : free_slots next + 1 ≡ free_slots s
-    now : next.time ≡ s.time
+  pub record Posted (delay : ℕ) (next : State) : Type 0 where
+    pub keeps : Held d next
+    pub left : free_slots next + 1 ≡ free_slots s
+    pub now : next.time ≡ s.time
 
-  posted_held : (delay : ℕ) (u : Update) → IsUpdate d u → s.time + delay < 2 ^ 64 → Posted delay (posted delay u s)
+  pub posted_held : (delay : ℕ) (u : Update) → IsUpdate d u → s.time + delay < 2 ^ 64 → Posted delay (posted delay u s)
   posted_held delay u is early = by (delay == 0) refl
     where
       by : (at_once : Bool) → (delay == 0) ≡ at_once

@@ -1,0 +1,1 @@
+use Rattle.vf_queue.proofs.posts.post_one.Goals as goal
