@@ -8,6 +8,7 @@ mod Processes
 mod Slots
 mod Codes
 mod Waking
+mod Watching
 mod Assigned
 mod Driven
 mod Performed
