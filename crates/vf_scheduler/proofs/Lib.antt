@@ -9,6 +9,7 @@ mod Slots
 mod Codes
 mod Waking
 mod Watching
+mod WatchLemmas
 mod Assigned
 mod Driven
 mod Performed

@@ -42,7 +42,7 @@ no_slot : (q : ℕ) (ns : List ℕ) → times (of_slot q) (map of_process ns) �
 no_slot q [] = refl
 no_slot q (n ∷ rest) = omega (arith, no_slot q rest)
 
-waits : (status : Status) → is_waiting status ≡ true → status_mark status ≡ Nowhere
+pub waits : (status : Status) → is_waiting status ≡ true → status_mark status ≡ Nowhere
 waits Waiting h = refl
 waits Halted h = absurd (false≢true h)
 waits Active h = absurd (false≢true h)
@@ -88,7 +88,7 @@ module _ (sig : ℕ) (old new : List Bit) where
 
   -- ---- their places
 
-  place_kept : (d : Elaborated) (process : Process) (place : ℕ) (instr : Option Instr) → Coded d process.code → slice_get process.code place ≡ instr → place < length process.code
+  pub place_kept : (d : Elaborated) (process : Process) (place : ℕ) (instr : Option Instr) → Coded d process.code → slice_get process.code place ≡ instr → place < length process.code
       → place_after instr place < length process.code
   place_kept d process place (Some (Await events)) code e h = goes_past process.code place (Await events) code.ended e refl
   place_kept d process place _ code e h = h
