@@ -14,9 +14,9 @@ pub use Rattle.vf_scheduler.proofs.Processes.{IsPlace, goes_held, waits_held, en
 -- what is put off
 pub use Rattle.vf_scheduler.proofs.Slots.{Updates, post_held, strobe_held}
 -- updates, and what they wake
-pub use Rattle.vf_scheduler.proofs.Waking.{wake_held, updated_held, updates_held}
+pub use Rattle.vf_scheduler.proofs.Waking.{element_held, wake_held, updated_held, updates_held}
 -- the next event of the active region is taken
 pub use Rattle.vf_scheduler.proofs.Regions.{take_held}
 -- a change of a signal wakes none but its watchers, which may be looked at one after the other
 pub use Rattle.vf_scheduler.proofs.Watching.{wakes_may, wakes_in, wakes_in_is, woken_watch, joins_active, wake_one, wake_each, wake_by_each}
-pub use Rattle.vf_scheduler.proofs.WatchLemmas.{wake_one_more, wake_one_less, wake_keeps, wake_one_held, wake_each_held, wake_one_sound, wake_each_sound}
+pub use Rattle.vf_scheduler.proofs.WatchLemmas.{threads_length, wake_one_more, wake_one_less, wake_keeps, wake_one_held, wake_each_held, wake_one_sound, wake_each_sound}

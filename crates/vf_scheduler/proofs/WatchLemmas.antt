@@ -3,6 +3,7 @@ use Rattle.std.proofs.Common.{◌≡◌, ℕ, suc, ◌+◌, ◌<◌, Bool, true,
 use Rattle.std.proofs.lemmas.Bool.{false≢true, and_parts, cases_lt}
 use Rattle.std.proofs.lemmas.List.{get_or_past, take_more}
 use Rattle.std.proofs.Math.Seq.{drop-cons}
+use Rattle.std.specs.List.{AllZip}
 use Rattle.std.specs.Option.{option_and_then}
 use Rattle.vf_fours.specs.declared.Bit.{Bit}
 use Rattle.vf_elaborated.specs.declared.design.Process.{Process}
@@ -20,6 +21,16 @@ use Rattle.vf_scheduler.proofs.Processes.{IsPlace, shapes_put, all_zip_at}
 use Rattle.vf_scheduler.proofs.Codes.{coded, list_all_at}
 use Rattle.vf_scheduler.proofs.Waking.{waits, place_kept}
 use Rattle.vf_scheduler.proofs.Watching.{wakes_in, joins_active, wake_one, wake_each}
+
+-- a sound state has a place for each process, which `woken_watch` and `wake_by_each` ask for
+pub threads_length : (d : Elaborated) (s : State) → IsSound d s → length s.threads ≡ length d.processes
+threads_length d s h = by d.processes s.threads h.threads
+  where
+    by : (processes : List Process) (threads : List Thread) → AllZip HasPlace processes threads → length threads ≡ length processes
+    by [] [] all = refl
+    by [] (thread ∷ threads) all = absurd all
+    by (process ∷ processes) [] all = absurd all
+    by (process ∷ processes) (thread ∷ threads) all = omega (arith, by processes threads all.1)
 
 module _ (d : Elaborated) (sig : ℕ) (old new : List Bit) where
   -- ---- one more
