@@ -1,5 +1,5 @@
 -- The watchers of a signal wake one after the other: what one more of them does, what none of them touches, and that each step keeps a state sound.
-use Rattle.std.proofs.Common.{◌≡◌, ℕ, suc, ◌+◌, ◌<◌, Bool, true, false, List, [], ◌∷◌, ◌++◌, take, drop, length, refl, sym, ◌∙◌, ap, subst, arith, ⊎_elim, slice_index_or, slice_set, slice_get, Option, if◌then◌else◌}
+use Rattle.std.proofs.Common.{◌≡◌, ℕ, suc, ◌+◌, ◌<◌, Bool, true, false, List, [], ◌∷◌, ◌++◌, take, drop, length, refl, sym, ◌∙◌, ap, subst, arith, ⊎_elim, slice_index_or, slice_set, slice_get, if◌then◌else◌}
 use Rattle.std.proofs.lemmas.Bool.{false≢true, and_parts, cases_lt}
 use Rattle.std.proofs.lemmas.List.{get_or_past, take_more}
 use Rattle.std.proofs.Math.Seq.{drop-cons}
@@ -7,11 +7,10 @@ use Rattle.std.specs.List.{AllZip}
 use Rattle.std.specs.Option.{option_and_then}
 use Rattle.vf_fours.specs.declared.Bit.{Bit}
 use Rattle.vf_elaborated.specs.declared.design.Process.{Process}
-use Rattle.vf_elaborated.specs.declared.code.Instr.{Instr}
 use Rattle.vf_elaborated.specs.Elaborated.{Elaborated}
 use Rattle.vf_elaborated.specs.WellFormed.{IsWellFormed, is_process}
 use Rattle.vf_scheduler.specs.State.{State, Thread, Active, Item, of_process, no_thread, thread_of, instr_at}
-use Rattle.vf_scheduler.specs.Updating.{is_waiting, wakes, place_after}
+use Rattle.vf_scheduler.specs.Updating.{is_waiting, place_after}
 use Rattle.vf_scheduler.specs.Sound.{IsSound, times, same_item}
 use Rattle.vf_scheduler.proofs.Marks.{Mark, InActive, same_item_is}
 use Rattle.vf_scheduler.proofs.Moves.{Wakes, wakes as wakes_once, sleeps, wake_up}
@@ -64,10 +63,10 @@ module _ (d : Elaborated) (sig : ℕ) (old new : List Bit) where
   wake_keeps (p ∷ rest) s =
       let after = wake_each d sig old new rest (wake_one d sig old new p s) in
       wake_keeps rest (wake_one d sig old new p s) ∙ ap (λ (t : State). record t { threads = after.threads; active = after.active }) (by (wakes_in d sig old new s p))
-      where
-        by : (wakes : Bool) → KeepsOthers s (if wakes then joins_active d p s else s)
-        by true = refl
-        by false = refl
+    where
+      by : (wakes : Bool) → KeepsOthers s (if wakes then joins_active d p s else s)
+      by true = refl
+      by false = refl
 
   -- ---- a sound state
 
