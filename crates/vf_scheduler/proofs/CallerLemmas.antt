@@ -7,3 +7,16 @@ pub use Rattle.vf_scheduler.proofs.ReadLemmas.{reads_on}
 pub use Rattle.vf_scheduler.proofs.Values.{value_told}
 -- how often an event stands in lists
 pub use Rattle.vf_scheduler.proofs.Marks.{times-append, times_here}
+-- a sound state as two parts, and back
+pub use Rattle.vf_scheduler.proofs.Held.{Shaped, Shapes, Held, held, sound}
+-- what keeps them: the moves of the running process
+pub use Rattle.vf_scheduler.proofs.Processes.{IsPlace, goes_held, waits_held, ends_held, delayed_held}
+-- what is put off
+pub use Rattle.vf_scheduler.proofs.Slots.{Updates, post_held, strobe_held}
+-- updates, and what they wake
+pub use Rattle.vf_scheduler.proofs.Waking.{element_held, wake_held, updated_held, updates_held}
+-- the next event of the active region is taken
+pub use Rattle.vf_scheduler.proofs.Regions.{take_held}
+-- a change of a signal wakes none but its watchers, which may be looked at one after the other
+pub use Rattle.vf_scheduler.proofs.Watching.{wakes_may, wakes_in, wakes_in_is, woken_watch, joins_active, wake_one, wake_each, wake_by_each}
+pub use Rattle.vf_scheduler.proofs.WatchLemmas.{threads_length, wake_one_more, wake_one_less, wake_keeps, wake_one_held, wake_each_held, wake_one_sound, wake_each_sound}

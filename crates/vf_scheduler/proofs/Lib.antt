@@ -8,6 +8,8 @@ mod Processes
 mod Slots
 mod Codes
 mod Waking
+mod Watching
+mod WatchLemmas
 mod Assigned
 mod Driven
 mod Performed

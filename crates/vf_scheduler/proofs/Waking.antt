@@ -42,7 +42,7 @@ no_slot : (q : ℕ) (ns : List ℕ) → times (of_slot q) (map of_process ns) �
 no_slot q [] = refl
 no_slot q (n ∷ rest) = omega (arith, no_slot q rest)
 
-waits : (status : Status) → is_waiting status ≡ true → status_mark status ≡ Nowhere
+pub waits : (status : Status) → is_waiting status ≡ true → status_mark status ≡ Nowhere
 waits Waiting h = refl
 waits Halted h = absurd (false≢true h)
 waits Active h = absurd (false≢true h)
@@ -88,7 +88,7 @@ module _ (sig : ℕ) (old new : List Bit) where
 
   -- ---- their places
 
-  place_kept : (d : Elaborated) (process : Process) (place : ℕ) (instr : Option Instr) → Coded d process.code → slice_get process.code place ≡ instr → place < length process.code
+  pub place_kept : (d : Elaborated) (process : Process) (place : ℕ) (instr : Option Instr) → Coded d process.code → slice_get process.code place ≡ instr → place < length process.code
       → place_after instr place < length process.code
   place_kept d process place (Some (Await events)) code e h = goes_past process.code place (Await events) code.ended e refl
   place_kept d process place _ code e h = h
@@ -161,6 +161,26 @@ element_put u signal elements old fits is e = record {
       (overwritten_length old u.bits u.low signal.width (ap length e ∙ fits.widths u.element [] (omega (arith, is.element, fits.count))) is.inside) fits.widths;
 }
 
+-- bits of an element are overwritten
+pub element_held : (d : Elaborated) (u : Update) (s : State) → IsUpdate d u → Held d s → (new : List Bit) → new ≡ overwritten (bits_of s u.sig u.element) u.low u.bits
+    → Held d (record s { values = slice_set s.values u.sig (slice_set (elements_of s u.sig) u.element new) })
+element_held d u s is h new e = record {
+  shapes = record {
+    places = h.shapes.places;
+    fits =
+        all_zip_set FitsSignal d.signals s.values u.sig _ h.shapes.fits
+        (λ signal at.
+        subst (λ bits. FitsSignal signal (slice_set (elements_of s u.sig) u.element bits)) (sym e)
+        (element_put u signal (elements_of s u.sig) (bits_of s u.sig u.element) (all_zip_at FitsSignal d.signals s.values u.sig signal [] h.shapes.fits at) (fits_at d u signal is at) refl));
+    widths = h.shapes.widths;
+    slot_count = h.shapes.slot_count;
+    holds = h.shapes.holds;
+    shows = h.shapes.shows;
+    is_due = h.shapes.is_due;
+  };
+  queue = h.queue;
+}
+
 module _ (d : Elaborated) (wf : IsWellFormed d) where
   -- an update
   pub updated_held : (u : Update) (s : State) → IsUpdate d u → Held d s → Held d (updated d u s)
@@ -172,28 +192,10 @@ module _ (d : Elaborated) (wf : IsWellFormed d) where
       old : List Bit
       old = bits_of s u.sig u.element
 
-      put : (new : List Bit) → new ≡ overwritten old u.low u.bits → Held d (record s { values = slice_set s.values u.sig (slice_set (elements_of s u.sig) u.element new) })
-      put new e = record {
-        shapes = record {
-          places = h.shapes.places;
-          fits =
-              all_zip_set FitsSignal d.signals s.values u.sig _ h.shapes.fits
-              (λ signal at.
-              subst (λ bits. FitsSignal signal (slice_set (elements_of s u.sig) u.element bits)) (sym e)
-              (element_put u signal (elements_of s u.sig) old (all_zip_at FitsSignal d.signals s.values u.sig signal [] h.shapes.fits at) (fits_at d u signal is at) refl));
-          widths = h.shapes.widths;
-          slot_count = h.shapes.slot_count;
-          holds = h.shapes.holds;
-          shows = h.shapes.shows;
-          is_due = h.shapes.is_due;
-        };
-        queue = h.queue;
-      }
-
       by : (new : List Bit) (same : Bool) → new ≡ overwritten old u.low u.bits
           → Held d (if same then s else wake d u.sig old new (record s { values = slice_set s.values u.sig (slice_set (elements_of s u.sig) u.element new) }))
       by new true e = h
-      by new false e = wake_held d u.sig old new _ wf (put new e)
+      by new false e = wake_held d u.sig old new _ wf (element_held d u s is h new e)
 
   pub updates_held : (updates : List Update) (s : State) → Updates d updates → Held d s → Held d (updated_all d updates s)
   updates_held [] s all h = h
