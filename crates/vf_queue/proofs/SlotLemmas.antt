@@ -1,7 +1,7 @@
 -- Which slots are free, in words.
 use Rattle.std.proofs.Common.{◌≡◌, ◌≢◌, ℕ, zero, suc, ◌+◌, ◌<◌, ◌≤◌, Bool, true, false, cond, List, [], ◌∷◌, ◌++◌, length, take, drop, replicate, Option, Some, None, refl, sym, ◌∙◌, ap, subst, arith, ⊎_elim, if◌then◌else◌, slice_index, slice_index_or, slice_set}
 use Rattle.std.proofs.lemmas.Bool.{cases_eq, eq-eqb, ne_eqb, false≢true}
-use Rattle.std.proofs.lemmas.List.{length-set, drop_at, drop_all, get_or-set_same, get_or-set_other}
+use Rattle.std.proofs.lemmas.List.{length-set, drop_more, drop_all, get_or-set_same, get_or-set_other}
 use Rattle.std.specs.List.{count_by}
 use Rattle.std.proofs.lemmas.List.Sums.{position_or_len_is, passes_at_first}
 use Rattle.std.proofs.lemmas.List.Recursion.{is_count_by}
@@ -188,7 +188,7 @@ some_counted (slot ∷ slots) (suc k) below free = by (is_free slot) (some_count
     by true some = omega arith
     by false some = some
 
-some_free : (s : State) → least_free s < length s.slots → 1 ≤ free_slots s
+pub some_free : (s : State) → least_free s < length s.slots → 1 ≤ free_slots s
 some_free s below =
     subst (λ n. 1 ≤ n) (is_count_by counted is_free refl (λ x xs. refl) s.slots)
     (some_counted s.slots (least_free s) below (passes_at_first is_free s.slots Free below))
@@ -211,25 +211,22 @@ module _ (show : ℕ) (s : State) where
 pub counted_is : (s : State) → counted s.slots ≡ free_slots s
 counted_is s = is_count_by counted is_free refl (λ x xs. refl) s.slots
 
-pub one_counted : (s : State) (q count : ℕ) → q < length s.slots → is_free (slot_of s q) ≡ true → count + counted (drop q s.slots) ≡ counted s.slots
-    → count + 1 + counted (drop (q + 1) s.slots) ≡ counted s.slots
-one_counted s q count below free so_far =
-    let here = ap counted (drop_at s.slots q Free below) ∙ ap (λ b. cond b (1 + counted (drop (q + 1) s.slots)) (counted (drop (q + 1) s.slots))) free in
-    omega (arith, so_far, here)
-
-pub none_counted : (s : State) (q count : ℕ) → q < length s.slots → is_free (slot_of s q) ≡ false → count + counted (drop q s.slots) ≡ counted s.slots
-    → count + counted (drop (q + 1) s.slots) ≡ counted s.slots
-none_counted s q count below held so_far =
-    let here = ap counted (drop_at s.slots q Free below) ∙ ap (λ b. cond b (1 + counted (drop (q + 1) s.slots)) (counted (drop (q + 1) s.slots))) held in
-    omega (arith, so_far, here)
+pub next_counted : (s : State) (q count one : ℕ) → q < length s.slots → one ≡ cond (is_free (slot_of s q)) 1 0 → count + counted (drop q s.slots) ≡ counted s.slots
+    → count + one + counted (drop (q + 1) s.slots) ≡ counted s.slots
+next_counted s q count one below is so_far =
+    omega (arith, so_far, ap counted (drop_more s.slots q Free below), by (is_free (slot_of s q)) (counted (drop (q + 1) s.slots)), is)
+  where
+    by : (b : Bool) (rest : ℕ) → cond b (1 + rest) rest ≡ cond b 1 0 + rest
+    by true rest = refl
+    by false rest = omega arith
 
 pub all_counted : (s : State) (q count : ℕ) → length s.slots ≤ q → count + counted (drop q s.slots) ≡ counted s.slots → count ≡ free_slots s
-all_counted s q count past so_far = let none = ap counted (drop_all s.slots q past) in omega (arith, so_far, none, counted_is s)
+all_counted s q count past so_far = let none = ap counted (drop_all q s.slots past) in omega (arith, so_far, none, counted_is s)
 
 pub few_counted : (slots : List Slot) → counted slots ≤ length slots
 few_counted [] = omega arith
 few_counted (slot ∷ slots) = by (is_free slot) (few_counted slots)
   where
-    by : (b : Bool) → counted slots ≤ length slots → cond b (1 + counted slots) (counted slots) ≤ 1 + length slots
+    by : (b : Bool) → counted slots ≤ length slots → cond b (1 + counted slots) (counted slots) ≤ suc (length slots)
     by true few = omega (arith, few)
     by false few = omega (arith, few)

@@ -2,7 +2,7 @@
 use Rattle.std.proofs.Common.{◌≡◌, ℕ, suc, zero, ◌+◌, ◌*◌, ◌/◌, ◌%◌, ◌^◌, ◌<◌, ◌≤◌, Bool, true, false, ◌||◌, List, [], ◌∷◌, ◌++◌, length, take, Option, Some, None, refl, sym, ◌∙◌, ap, ap₂, arith, if◌then◌else◌, slice_get, nat_lt, IsSomeAnd}
 use Rattle.std.proofs.Math.Nat.{mod-eq_of_lt}
 use Rattle.std.proofs.Math.Pow.{pow_mono}
-use Rattle.std.proofs.lemmas.Bool.{false≢true, ltb-false, cases_lt, lt-ltb}
+use Rattle.std.proofs.lemmas.Bool.{false≢true, ltb-false, eq-eqb, ne_eqb}
 use Rattle.std.proofs.lemmas.List.{get_or-set_same, get_or-set_other}
 use Rattle.std.specs.List.{list_any}
 use Rattle.vf_fours.specs.declared.Bit.{Bit}
@@ -11,7 +11,7 @@ use Rattle.vf_elaborated.specs.declared.design.Signal.{Signal}
 use Rattle.vf_elaborated.specs.Elaborated.{Elaborated}
 use Rattle.vf_elaborated.specs.Addresses.{NONBLOCKING, is_wide, slot_at, slot_size, has_wide}
 use Rattle.vf_scheduler.specs.State.{State, Update, Slot, Free, Later, Due, Item, of_process, of_slot}
-use Rattle.vf_scheduler.specs.Posting.{is_free, put_slot, time_of, slot_time, put_by_time, joins_future}
+use Rattle.vf_scheduler.specs.Posting.{is_free, least_free, put_slot, time_of, slot_time, put_by_time, joins_future, posted}
 use Rattle.vf_scheduler.specs.Sound.{FitsIn, times, events, IsUpdate, IsSound}
 use Rattle.vf_scheduler.specs.Words.{update_words, words_of}
 use Rattle.vf_scheduler.proofs.CallerLemmas.{times-append}
@@ -128,3 +128,20 @@ module _ (d : Elaborated) (s : State) (sound : IsSound d s) (q : ℕ) (free : Is
       by (Some m) is =
           ap (λ list. words_of d (record next { future = list })) (same ∙ is.put (of_slot q))
           ∙ (laws.after is.before is.other (of_slot q) is.rest is.is linked absent ∙ ap (λ m. put_after d m (length d.processes + q) (words_of d next)) is.numbered)
+
+-- ---- an update that is posted, by its delay
+
+module _ (s : State) (u : Update) (delay : ℕ) where
+  pub posted_now : (q : ℕ) → q ≡ least_free s → delay ≡ 0 → record (put_slot q (Due u) s) { nonblocking = s.nonblocking ++ of_slot q ∷ [] } ≡ posted delay u s
+  posted_now q least none =
+      ap (λ q. record (put_slot q (Due u) s) { nonblocking = s.nonblocking ++ of_slot q ∷ [] }) least
+      ∙ ap
+      (λ b. if b then record (put_slot (least_free s) (Due u) s) { nonblocking = s.nonblocking ++ of_slot (least_free s) ∷ [] }
+      else joins_future (s.time + delay) (of_slot (least_free s)) (put_slot (least_free s) (Later (s.time + delay) u) s)) (sym (eq-eqb delay 0 none))
+
+  pub posted_later : (q at : ℕ) → q ≡ least_free s → (delay ≡ 0 → ⊥) → s.time + delay ≡ at → joins_future at (of_slot q) (put_slot q (Later at u) s) ≡ posted delay u s
+  posted_later q at least some is =
+      ap₂ (λ q at. joins_future at (of_slot q) (put_slot q (Later at u) s)) least (sym is)
+      ∙ ap
+      (λ b. if b then record (put_slot (least_free s) (Due u) s) { nonblocking = s.nonblocking ++ of_slot (least_free s) ∷ [] }
+      else joins_future (s.time + delay) (of_slot (least_free s)) (put_slot (least_free s) (Later (s.time + delay) u) s)) (sym (ne_eqb delay 0 some))

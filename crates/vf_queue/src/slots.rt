@@ -1,9 +1,9 @@
-ghost use Rattle.std.specs.Prelude.{◌≡◌, ◌∷◌, ◌+◌, ◌/◌, ◌%◌, ◌^◌, ◌<◌, ◌≤◌, ℕ, length, take, slice_index, slice_set, OnOk, IfOk};
+ghost use Rattle.std.specs.Prelude.{◌≡◌, ◌∷◌, ◌+◌, ◌/◌, ◌%◌, ◌^◌, ◌<◌, ◌≤◌, ℕ, length, take, slice_index, slice_set, OnOk, IfOk, cond};
 ghost use Rattle.vf_machine.specs.Writes.{written};
 ghost use Rattle.vf_elaborated.specs.Addresses.{word_count, slot_at, slot_size, has_wide};
 ghost use Rattle.vf_scheduler.specs.State.{State};
-ghost use Rattle.vf_scheduler.specs.Posting.{free_slots, strobe};
-ghost use Rattle.vf_scheduler.specs.Sound.{IsSound, IsUpdate};
+ghost use Rattle.vf_scheduler.specs.Posting.{free_slots, is_free, strobe};
+ghost use Rattle.vf_scheduler.specs.Sound.{IsSound, IsUpdate, slot_of};
 ghost use Rattle.vf_scheduler.specs.Words.{update_words};
 ghost use Rattle.vf_layout.specs.Puts.{put_all};
 ghost use Rattle.vf_queue.specs.Writing.{Writes};
@@ -80,11 +80,19 @@ fn free_slots<W: Words>(design: &Design, words: &W, patch: &Patch) -> usize
 {
     let mut count = 0;
     for slot in 0..design.slots {
-        if patch.read(words, design.slot_at(slot)) == 0 {
-            count += 1;
-        }
+        count += count_free(design, words, patch, slot);
     }
     count
+}
+
+/// 1 where a slot is free, else 0.
+fn count_free<W: Words>(design: &Design, words: &W, patch: &Patch, slot: u32) -> usize
+    requires underway { IsUnderway design.now (W.contents words.now) patch.now }
+    requires slot { slot < design.now.slots }
+    ensures free { (s : State) → IsSound design.now s → Holds design.now (W.contents words.now) patch.now s → result ≡ cond (is_free (slot_of s slot)) 1 0 }
+    ensures few { result ≤ 1 }
+{
+    if patch.read(words, design.slot_at(slot)) == 0 { 1 } else { 0 }
 }
 
 /// `$strobe` of a show (IEEE Std 1364-2005, 17.1.2): it takes the least free slot, and prints at the end of this time step.

@@ -20,3 +20,5 @@ pub use Rattle.vf_scheduler.proofs.Regions.{take_held}
 -- a change of a signal wakes none but its watchers, which may be looked at one after the other
 pub use Rattle.vf_scheduler.proofs.Watching.{wakes_may, wakes_in, wakes_in_is, woken_watch, joins_active, wake_one, wake_each, wake_by_each}
 pub use Rattle.vf_scheduler.proofs.WatchLemmas.{threads_length, wake_one_more, wake_one_less, wake_keeps, wake_one_held, wake_each_held, wake_one_sound, wake_each_sound}
+-- what one posted update leaves
+pub use Rattle.vf_scheduler.proofs.Slots.{Posted, posted_held}
