@@ -8,3 +8,4 @@ mod DelayLemmas
 mod RegionLemmas
 mod SlotLemmas
 mod UpdateLemmas
+mod PostLemmas

@@ -1,5 +1,5 @@
 -- Which slots are free, in words.
-use Rattle.std.proofs.Common.{◌≡◌, ◌≢◌, ℕ, zero, suc, ◌+◌, ◌<◌, ◌≤◌, Bool, true, false, cond, List, [], ◌∷◌, ◌++◌, length, take, drop, replicate, Option, Some, None, refl, sym, ◌∙◌, ap, subst, arith, ⊎_elim, if◌then◌else◌, slice_index, slice_index_or, slice_set}
+use Rattle.std.proofs.Common.{◌≡◌, ◌≢◌, ℕ, zero, suc, ◌+◌, ◌<◌, ◌≤◌, Bool, true, false, cond, List, [], ◌∷◌, ◌++◌, length, take, drop, replicate, Some, None, refl, sym, ◌∙◌, ap, subst, arith, ⊎_elim, if◌then◌else◌, slice_index, slice_index_or, slice_set}
 use Rattle.std.proofs.lemmas.Bool.{cases_eq, eq-eqb, ne_eqb, false≢true}
 use Rattle.std.proofs.lemmas.List.{length-set, drop_more, drop_all, get_or-set_same, get_or-set_other}
 use Rattle.std.specs.List.{count_by}
@@ -146,10 +146,11 @@ module _ (d : Elaborated) (s : State) (sound : IsSound d s) (q : ℕ) (least : q
 
   other_linked : (slot : Slot) → is_free slot ≡ false → (item : Item) → HasLink d s item → HasLink d (put_slot q slot s) item
   other_linked slot held (of_process p) has = has
-  other_linked slot held (of_slot r) has =
-      (has.0,
-      ⊎_elim (λ same. ap (λ r. is_free (slice_index_or (slice_set s.slots q slot) r Free)) (sym same) ∙ (ap is_free (get_or-set_same s.slots q slot Free below) ∙ held))
-      (λ other. ap is_free (get_or-set_other s.slots q r slot Free (λ same. other (sym same))) ∙ has.1) (cases_eq q r))
+  other_linked slot held (of_slot r) has = (
+    has.0,
+    ⊎_elim (λ same. ap (λ r. is_free (slice_index_or (slice_set s.slots q slot) r Free)) (sym same) ∙ (ap is_free (get_or-set_same s.slots q slot Free below) ∙ held))
+        (λ other. ap is_free (get_or-set_other s.slots q r slot Free (λ same. other (sym same))) ∙ has.1) (cases_eq q r),
+  )
 
   pub filled_written : (slot : Slot) → is_free slot ≡ false → IsWritten d (put_slot q slot s)
   filled_written slot held =

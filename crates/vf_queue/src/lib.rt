@@ -18,6 +18,8 @@ mod update;
 mod writes;
 
 pub use delays::delay;
+pub use posts::post;
 pub use regions::{promote_updates, run, settle_monitor, take_active, watch};
+pub use slots::strobe;
 pub use threads::{go_to, halt, wait};
 pub use update::Update;

@@ -25,7 +25,13 @@ use vf_patch::Patch;
 /// A nonblocking assignment (IEEE Std 1364-2005, 9.2.2): each update takes the least free slot, and joins the nonblocking ones of now, or those of
 /// a time to come. `Some(Ending::Events)` tells that too few slots are free, `Some(Ending::Time)` that the time would not fit 64 bits;
 /// the run ends there, so what the patch then holds is of no use.
-pub fn post<W: Words>(design: &Design, words: &W, patch: &mut Patch, updates: &[Update], delay: u64) -> Result<Option<Ending>, Memory>
+pub fn post<W: Words>(
+    design: &Design,
+    words: &W,
+    patch: &mut Patch,
+    updates: &[Update],
+    delay: u64,
+) -> Result<Option<Ending>, Memory>
     requires underway { IsUnderway design.now (W.contents words.now) patch.old }
     requires fits { All (λ (update : Update). IsUpdate design.now (update_of update)) updates.now }
     ensures { IfOk result (λ end. (s : State) → IsSound design.now s → Holds design.now (W.contents words.now) patch.old s
@@ -44,7 +50,14 @@ pub fn post<W: Words>(design: &Design, words: &W, patch: &mut Patch, updates: &[
 }
 
 /// An update takes the least free slot. False tells that there is none; then nothing is written.
-fn post_one<W: Words>(design: &Design, words: &W, patch: &mut Patch, update: &Update, delay: u64, at: u64) -> Result<bool, Memory>
+fn post_one<W: Words>(
+    design: &Design,
+    words: &W,
+    patch: &mut Patch,
+    update: &Update,
+    delay: u64,
+    at: u64,
+) -> Result<bool, Memory>
     requires comes { ComesAt design.now (W.contents words.now) patch.old delay at }
     requires fits { IsUpdate design.now (update_of update.now) }
     ensures { IfOk result (λ found. (s : State) → IsSound design.now s → s.time + delay ≡ at → Holds design.now (W.contents words.now) patch.old s
@@ -62,7 +75,13 @@ fn post_one<W: Words>(design: &Design, words: &W, patch: &mut Patch, update: &Up
 }
 
 /// An update of now takes a free slot, and is the last of the nonblocking ones.
-fn post_now<W: Words>(design: &Design, words: &W, patch: &mut Patch, slot: u32, update: &Update) -> Result<(), Memory>
+fn post_now<W: Words>(
+    design: &Design,
+    words: &W,
+    patch: &mut Patch,
+    slot: u32,
+    update: &Update,
+) -> Result<(), Memory>
     requires free { HasFree design.now (W.contents words.now) patch.old slot }
     requires fits { IsUpdate design.now (update_of update.now) }
     ensures { OnOk result ((s : State) → IsSound design.now s → IsFreeIn s slot → Holds design.now (W.contents words.now) patch.old s
@@ -74,7 +93,14 @@ fn post_now<W: Words>(design: &Design, words: &W, patch: &mut Patch, slot: u32, 
 }
 
 /// An update of a time to come takes a free slot, and joins the future.
-fn post_later<W: Words>(design: &Design, words: &W, patch: &mut Patch, slot: u32, update: &Update, at: u64) -> Result<(), Memory>
+fn post_later<W: Words>(
+    design: &Design,
+    words: &W,
+    patch: &mut Patch,
+    slot: u32,
+    update: &Update,
+    at: u64,
+) -> Result<(), Memory>
     requires free { HasFree design.now (W.contents words.now) patch.old slot }
     requires fits { IsUpdate design.now (update_of update.now) }
     ensures { OnOk result ((s : State) → IsSound design.now s → IsFreeIn s slot → Holds design.now (W.contents words.now) patch.old s
@@ -87,4 +113,5 @@ fn post_later<W: Words>(design: &Design, words: &W, patch: &mut Patch, slot: u32
 
 // The words of what a slot holds.
 const LATER_UPDATE: u64 = 1;
+
 const DUE_UPDATE: u64 = 2;

@@ -22,7 +22,13 @@ use vf_machine::Words;
 use vf_patch::Patch;
 
 /// Writes words from an address on.
-fn put_words<W: Words>(design: &Design, words: &W, patch: &mut Patch, at: u32, list: &[u64]) -> Result<(), Memory>
+fn put_words<W: Words>(
+    design: &Design,
+    words: &W,
+    patch: &mut Patch,
+    at: u32,
+    list: &[u64],
+) -> Result<(), Memory>
     requires long { length (W.contents words.now) ≡ word_count design.now }
     requires inside { at + length list.now ≤ word_count design.now }
     ensures { OnOk result (Writes (W.contents words.now) (put_all at list.now) patch.old patch.new) }
@@ -92,12 +98,21 @@ fn count_free<W: Words>(design: &Design, words: &W, patch: &Patch, slot: u32) ->
     ensures free { (s : State) → IsSound design.now s → Holds design.now (W.contents words.now) patch.now s → result ≡ cond (is_free (slot_of s slot)) 1 0 }
     ensures few { result ≤ 1 }
 {
-    if patch.read(words, design.slot_at(slot)) == 0 { 1 } else { 0 }
+    if patch.read(words, design.slot_at(slot)) == 0 {
+        1
+    } else {
+        0
+    }
 }
 
 /// `$strobe` of a show (IEEE Std 1364-2005, 17.1.2): it takes the least free slot, and prints at the end of this time step.
 /// `Some(Ending::Events)` tells that no slot is free; then nothing is written.
-pub fn strobe<W: Words>(design: &Design, words: &W, patch: &mut Patch, show: u32) -> Result<Option<Ending>, Memory>
+pub fn strobe<W: Words>(
+    design: &Design,
+    words: &W,
+    patch: &mut Patch,
+    show: u32,
+) -> Result<Option<Ending>, Memory>
     requires { IsUnderway design.now (W.contents words.now) patch.old }
     ensures { IfOk result (λ end. (s : State) → IsSound design.now s → Holds design.now (W.contents words.now) patch.old s
         → IsMove design.now (W.contents words.now) patch.new (strobe show s s) end) }
@@ -105,13 +120,27 @@ pub fn strobe<W: Words>(design: &Design, words: &W, patch: &mut Patch, show: u32
     let Some(slot) = least_free(design, words, patch) else {
         return Ok(Some(Ending::Events));
     };
-    put_slot(design, words, patch, slot, [STROBE, 0, 0, u64::from(show), 0, 0, 0, 0, 0, 0])?;
+    put_slot(
+        design,
+        words,
+        patch,
+        slot,
+        [STROBE, 0, 0, u64::from(show), 0, 0, 0, 0, 0, 0],
+    )?;
     join(design, words, patch, STROBES, number(design, slot))?;
     Ok(None)
 }
 
 /// A slot takes an update: one of now, or of a time of the future.
-pub fn put_update<W: Words>(design: &Design, words: &W, patch: &mut Patch, slot: u32, kind: u64, time: u64, update: &Update) -> Result<(), Memory>
+pub fn put_update<W: Words>(
+    design: &Design,
+    words: &W,
+    patch: &mut Patch,
+    slot: u32,
+    kind: u64,
+    time: u64,
+    update: &Update,
+) -> Result<(), Memory>
     requires long { length (W.contents words.now) ≡ word_count design.now }
     requires slot { slot < design.now.slots }
     requires fits { IsUpdate design.now (update_of update.now) }
@@ -150,12 +179,24 @@ fn high_half(plane: u128) -> u64
 }
 
 /// Writes what a slot holds: 8 words, or 10 where some signal is above 64 bits.
-fn put_slot<W: Words>(design: &Design, words: &W, patch: &mut Patch, slot: u32, all: [u64; 10]) -> Result<(), Memory>
+fn put_slot<W: Words>(
+    design: &Design,
+    words: &W,
+    patch: &mut Patch,
+    slot: u32,
+    all: [u64; 10],
+) -> Result<(), Memory>
     requires long { length (W.contents words.now) ≡ word_count design.now }
     requires slot { slot < design.now.slots }
     ensures { OnOk result (Writes (W.contents words.now) (put_all (slot_at design.now slot) (take (slot_size design.now) all)) patch.old patch.new) }
 {
-    put_words(design, words, patch, design.slot_at(slot), &all[..slot_size(design)])
+    put_words(
+        design,
+        words,
+        patch,
+        design.slot_at(slot),
+        &all[..slot_size(design)],
+    )
 }
 
 /// How many words a slot has.

@@ -1,4 +1,4 @@
-use Rattle.std.proofs.Common.{ap, arith, ◌<◌, subst}
+use Rattle.std.proofs.Common.{ap, arith, subst}
 use Rattle.vf_elaborated.specs.Elaborated.{Elaborated}
 use Rattle.vf_elaborated.specs.WellFormed.{IsWellFormed}
 use Rattle.vf_layout.proofs.CallerLemmas.{sound_written}

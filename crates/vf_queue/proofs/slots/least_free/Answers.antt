@@ -1,6 +1,5 @@
-use Rattle.std.proofs.Common.{◌∙◌, ◌<◌, ap, ap₂, subst, sym, arith, slice_index}
+use Rattle.std.proofs.Common.{◌∙◌, ◌<◌, ap, ap₂, arith, slice_index}
 use Rattle.vf_elaborated.specs.Elaborated.{Elaborated}
-use Rattle.vf_elaborated.specs.Addresses.{slot_at}
 use Rattle.vf_elaborated.proofs.CallerLemmas.{slot_inside}
 use Rattle.vf_layout.proofs.CallerLemmas.{sound_written}
 use Rattle.vf_queue.proofs.HoldLemmas.{long}

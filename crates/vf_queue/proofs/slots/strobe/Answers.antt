@@ -1,4 +1,4 @@
-use Rattle.std.proofs.Common.{◌+◌, ◌<◌, ◌∷◌, ◌++◌, [], length, take, ◌∙◌, ap, ap₂, refl, subst, sym, arith, true}
+use Rattle.std.proofs.Common.{◌+◌, ◌<◌, ◌∷◌, ◌++◌, [], length, take, ◌∙◌, ap, refl, subst, sym}
 use Rattle.vf_elaborated.specs.Addresses.{STROBES, slot_size}
 use Rattle.vf_scheduler.specs.State.{Strobed, of_slot}
 use Rattle.vf_scheduler.specs.Posting.{put_slot}
