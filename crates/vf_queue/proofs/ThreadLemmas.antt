@@ -19,20 +19,28 @@ runs_only Active h = absurd (false≢true h)
 runs_only Inactive h = absurd (false≢true h)
 runs_only (Future at) h = absurd (false≢true h)
 
--- another status at the same place, where the time stays: the word of the status is written
+-- another place and status, where the time stays: their words are written
+pub replaced : (d : Elaborated) (s : State) (p : ℕ) → HasShape d s → p < length d.processes → (place : ℕ) (status : Status) → time_in (thread_of s p).status ≡ time_in status
+    → words_of d (put_thread p (record { place = place; status = status }) s)
+    ≡ slice_set (slice_set (words_of d s) (thread_at p) place) (thread_at p + 1) (status_word status)
+replaced d s p shape there place status timed =
+    let thread : Thread = record { place = place; status = status } in
+    let first = slice_set (words_of d s) (thread_at p) place in
+    let later = slice_set first (thread_at p + 1) (status_word status) in
+    let time : slice_index later (thread_at p + 3) ≡ time_in status =
+    get_or-set_other first (thread_at p + 1) (thread_at p + 3) (status_word status) 0 (λ same. omega (arith, same))
+    ∙ (get_or-set_other (words_of d s) (thread_at p) (thread_at p + 3) place 0 (λ same. omega (arith, same))
+    ∙ (((words_standing d s shape).threads p there).time ∙ timed)) in
+    ((changes_written d s shape).threads p there).thread thread ∙ (ap (λ word. slice_set later (thread_at p + 3) word) (sym time) ∙ set-get_or later (thread_at p + 3) 0)
+
+-- another status at the same place: its word is written
 pub restatus : (d : Elaborated) (s : State) (p : ℕ) → HasShape d s → p < length d.processes → (status : Status) → time_in (thread_of s p).status ≡ time_in status
     → words_of d (put_thread p (record { place = (thread_of s p).place; status = status }) s) ≡ slice_set (words_of d s) (thread_at p + 1) (status_word status)
 restatus d s p shape there status timed =
-    let thread : Thread = record { place = (thread_of s p).place; status = status } in
     let words = words_of d s in
-    let stands = (words_standing d s shape).threads p there in
-    let first : slice_set words (thread_at p) thread.place ≡ words = ap (λ word. slice_set words (thread_at p) word) (sym stands.place) ∙ set-get_or words (thread_at p) 0 in
-    let later = slice_set words (thread_at p + 1) (status_word status) in
-    let time : slice_index later (thread_at p + 3) ≡ time_in status =
-    get_or-set_other words (thread_at p + 1) (thread_at p + 3) (status_word status) 0 (λ same. omega (arith, same)) ∙ (stands.time ∙ timed) in
-    ((changes_written d s shape).threads p there).thread thread
-    ∙ (ap (λ words. slice_set (slice_set words (thread_at p + 1) (status_word status)) (thread_at p + 3) (time_in status)) first
-    ∙ (ap (λ word. slice_set later (thread_at p + 3) word) (sym time) ∙ set-get_or later (thread_at p + 3) 0))
+    replaced d s p shape there (thread_of s p).place status timed
+    ∙ ap (λ words. slice_set words (thread_at p + 1) (status_word status))
+    (ap (λ word. slice_set words (thread_at p) word) (sym ((words_standing d s shape).threads p there).place) ∙ set-get_or words (thread_at p) 0)
 
 module _ (d : Elaborated) (s : State) (p : ℕ) (sound : IsSound d s) (running : s.running ≡ Some p) where
   pub runs : (thread_of s p).status ≡ Running

@@ -19,7 +19,8 @@ mod writes;
 
 pub use delays::delay;
 pub use posts::post;
-pub use regions::{promote_updates, run, settle_monitor, take_active, watch};
+pub use regions::{promote_updates, run, settle_monitor, take_active, wake, watch};
 pub use slots::strobe;
 pub use threads::{go_to, halt, wait};
 pub use update::Update;
+pub use writes::{front, put, put_front};

@@ -1,14 +1,15 @@
-ghost use Rattle.std.specs.Prelude.{◌≡◌, ◌<◌, ℕ, List, [], ◌∷◌, length, Some, true, false, IfOk, OnOk};
+ghost use Rattle.std.specs.Prelude.{◌≡◌, ◌<◌, ℕ, List, [], ◌∷◌, ◌++◌, length, Some, true, false, IfOk, OnOk};
 ghost use Rattle.vf_scheduler.specs.State as model;
-ghost use Rattle.vf_scheduler.specs.State.{State, of_process};
+ghost use Rattle.vf_scheduler.specs.State.{State, of_process, thread_of, put_thread};
 ghost use Rattle.vf_scheduler.specs.Sound.{IsSound};
 ghost use Rattle.vf_scheduler.specs.Turning.{take_item};
+ghost use Rattle.vf_scheduler.specs.Updating.{is_waiting};
 ghost use Rattle.vf_layout.specs.Regions.{number};
 ghost use Rattle.vf_queue.specs.Holding.{Holds, IsUnderway};
-ghost use Rattle.vf_queue.specs.Moves.{HasActive};
+ghost use Rattle.vf_queue.specs.Moves.{HasActive, CanWake};
 
 use crate::addresses::{ACTIVE, DUE, MONITOR, NONBLOCKING, RUNNING};
-use crate::lists::{make_active, take};
+use crate::lists::{join, make_active, take};
 use crate::writes::{put, put_front};
 use vf_base::Memory;
 use vf_elaborated::Design;
@@ -38,6 +39,26 @@ pub fn run(design: &Design, patch: &mut Patch, process: u32) -> Result<(), Memor
     Ok(())
 }
 
+/// A waiting process wakes: it goes on at a place, as the last active event (IEEE Std 1364-2005, 9.7).
+pub fn wake<W: Words>(
+    design: &Design,
+    words: &W,
+    patch: &mut Patch,
+    process: u32,
+    place: u32,
+) -> Result<(), Memory>
+    requires { CanWake design.now (W.contents words.now) patch.old process }
+    ensures { OnOk result ((s : State) → IsSound design.now s → is_waiting (thread_of s process).status ≡ true
+        → Holds design.now (W.contents words.now) patch.old s
+        → Holds design.now (W.contents words.now) patch.new
+        (record (put_thread process (record { place = place; status = model.Active }) s) { active = s.active ++ of_process process ∷ [] })) }
+{
+    let at = design.thread_at(process);
+    put(patch, at, u64::from(place))?;
+    put(patch, at + 1, ACTIVE_STATUS)?;
+    join(design, words, patch, ACTIVE, process)
+}
+
 /// Where no event is active or inactive, the nonblocking updates become active, in order.
 pub fn promote_updates<W: Words>(design: &Design, words: &W, patch: &mut Patch)
     requires { IsUnderway design.now (W.contents words.now) patch.old }
@@ -65,5 +86,7 @@ pub fn settle_monitor<W: Words>(design: &Design, words: &W, patch: &mut Patch)
     put_front(patch, DUE, 0);
 }
 
-// The word of a process that runs.
+// The words of where a process stands.
+const ACTIVE_STATUS: u64 = 2;
+
 const RUNNING_STATUS: u64 = 5;
