@@ -1,5 +1,4 @@
 use Rattle.std.proofs.Common.{◌≡◌, ◌++◌, ◌∷◌, [], ◌∙◌, sym, ap, ap₂, None}
-use Rattle.vf_scope.specs.declared.scope.Entry.{Entry}
 use Rattle.vf_scope.specs.Names.{Names, find}
 use Rattle.vf_scope.proofs.NameLemmas.{names, added, not_found}
 use Rattle.vf_scope.proofs.scope.Scope.add.Goals as goal

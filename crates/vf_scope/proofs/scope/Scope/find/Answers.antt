@@ -1,4 +1,4 @@
-use Rattle.std.proofs.Common.{◌≡◌, ◌∙◌, ap}
+use Rattle.std.proofs.Common.{◌∙◌, ap}
 use Rattle.vf_scope.specs.Names.{find}
 use Rattle.vf_scope.proofs.NameLemmas.{found}
 use Rattle.vf_scope.proofs.scope.Scope.find.Goals as goal
