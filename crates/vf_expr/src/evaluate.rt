@@ -24,8 +24,8 @@ fn selected_at(of: Fours, low: Option<i64>, width: u32) -> Fours
     }
 }
 
-/// Bits of a value; x where the place is unknown or outside.
-fn selected(of: Fours, index: Fours, scale: i64, shift: i64, width: u32) -> Fours
+/// Bits of a value, the least of them at `scale * index + shift`; x where the place is unknown or outside (clause 5.2.1).
+pub fn selected(of: Fours, index: Fours, scale: i64, shift: i64, width: u32) -> Fours
     requires scale { is_scale scale ≡ true }
     requires width { is_width width ≡ true }
     ensures { result ≡ selected_of of (low_of scale shift index) width }

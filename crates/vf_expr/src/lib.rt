@@ -10,6 +10,6 @@ mod evaluate;
 mod places;
 mod read;
 
-pub use evaluate::eval;
+pub use evaluate::{eval, selected};
 pub use places::{element, place};
 pub use read::value;
