@@ -13,4 +13,4 @@ pub use Rattle.vf_layout.proofs.FewLemmas.{numbered_below, few_events}
 -- the numbers of events in lists
 pub use Rattle.vf_layout.proofs.Lists.{numbers-append, has_link}
 -- the planes of a value have no bit above its width
-pub use Rattle.vf_layout.proofs.ValueLemmas.{ones_below, unknown_below}
+pub use Rattle.vf_layout.proofs.ValueLemmas.{ones_below, unknown_below, bits_again}

@@ -34,7 +34,7 @@ weight_small weight (b ∷ bits) small =
     omega (arith, first, rest, double)
 
 -- the bits of the planes of a list are the list
-bits_again : (bits : List Bit) (width : ℕ) → length bits ≡ width → bits_of width (ones_of bits) (unknown_of bits) ≡ bits
+pub bits_again : (bits : List Bit) (width : ℕ) → length bits ≡ width → bits_of width (ones_of bits) (unknown_of bits) ≡ bits
 bits_again bits width long =
     let ones = subst (λ n. ones_of bits < 2 ^ n) long (weight_small in_ones bits ones_small) in
     let unknown = subst (λ n. unknown_of bits < 2 ^ n) long (weight_small in_unknown bits unknown_small) in

@@ -36,14 +36,14 @@ fn print_piece<W: Words>(
 pub fn print_show<W: Words>(
     design: &Design,
     words: &W,
-    show: u32,
+    show: usize,
     into: &mut Text,
 ) -> Result<(), Memory>
     requires show { show < length design.now.shows }
     requires held { HoldsValues design.now (W.contents words.now) }
     ensures { OnOk result (into.new ≡ into.old ++ text_of design.now.signals (scene_at design.now (W.past_end words.now) (W.contents words.now)) (slice_get design.now.shows show)) }
 {
-    let show = &design.shows.as_slice()[show as usize];
+    let show = &design.shows.as_slice()[show];
     for piece in show.pieces.as_slice() {
         print_piece(design, words, piece, into)?;
     }

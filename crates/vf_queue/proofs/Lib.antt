@@ -9,3 +9,4 @@ mod RegionLemmas
 mod SlotLemmas
 mod UpdateLemmas
 mod PostLemmas
+mod DueLemmas

@@ -4,3 +4,4 @@ pub mod Future
 pub mod Moves
 pub mod Updates
 pub mod Slots
+pub mod Due

@@ -8,6 +8,7 @@
 
 mod addresses;
 mod delays;
+mod due;
 mod future;
 mod lists;
 mod posts;
@@ -18,6 +19,7 @@ mod update;
 mod writes;
 
 pub use delays::delay;
+pub use due::{take_strobe, take_update};
 pub use posts::post;
 pub use regions::{promote_updates, run, settle_monitor, take_active, wake, watch};
 pub use slots::strobe;

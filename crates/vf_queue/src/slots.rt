@@ -179,7 +179,7 @@ fn high_half(plane: u128) -> u64
 }
 
 /// Writes what a slot holds: 8 words, or 10 where some signal is above 64 bits.
-fn put_slot<W: Words>(
+pub fn put_slot<W: Words>(
     design: &Design,
     words: &W,
     patch: &mut Patch,

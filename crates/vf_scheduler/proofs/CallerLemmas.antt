@@ -16,7 +16,15 @@ pub use Rattle.vf_scheduler.proofs.Slots.{Updates, post_held, strobe_held}
 -- updates, and what they wake
 pub use Rattle.vf_scheduler.proofs.Waking.{element_held, wake_held, updated_held, updates_held}
 -- the next event of the active region is taken
-pub use Rattle.vf_scheduler.proofs.Regions.{take_held}
+pub use Rattle.vf_scheduler.proofs.Regions.{take_held, freed}
+-- an event of another region becomes active, and a strobe is printed
+pub use Rattle.vf_scheduler.proofs.Regions.{activate_held, Arrives, arrive_held, strobe_printed}
+pub use Rattle.vf_scheduler.proofs.Steps.{Later, all_later}
+pub use Rattle.vf_scheduler.proofs.Queues.{times_by, Between}
+pub use Rattle.vf_scheduler.proofs.Held.{time_is, mark_in}
+-- a signal of a design, and an update of it, have few bits
+pub use Rattle.vf_scheduler.proofs.Assigned.{Sized, sized}
+pub use Rattle.vf_scheduler.proofs.Telling.{update_narrow}
 -- a change of a signal wakes none but its watchers, which may be looked at one after the other
 pub use Rattle.vf_scheduler.proofs.Watching.{wakes_may, wakes_in, wakes_in_is, woken_watch, joins_active, wake_one, wake_each, wake_by_each}
 pub use Rattle.vf_scheduler.proofs.WatchLemmas.{threads_length, wake_one_more, wake_one_less, wake_keeps, wake_one_held, wake_each_held, wake_one_sound, wake_each_sound}

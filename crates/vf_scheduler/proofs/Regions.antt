@@ -92,7 +92,7 @@ module _ (d : Elaborated) where
             (thread_put s.threads s.slots p thread within);
       }
 
-  freed : (s : State) (q : ℕ) (rest : List Item) → Held d (record s { active = of_slot q ∷ rest }) → Held d (put_slot q Free (record s { active = rest }))
+  pub freed : (s : State) (q : ℕ) (rest : List Item) → Held d (record s { active = of_slot q ∷ rest }) → Held d (put_slot q Free (record s { active = rest }))
   freed s q rest h =
       let x = of_slot q in
       let here = times_here x rest in
@@ -117,7 +117,7 @@ module _ (d : Elaborated) where
 
   -- ---- the inactive events become active
 
-  activate_held : (s : State) (x : Item) (a i : List Item) → Held d (record s { active = a; inactive = x ∷ i })
+  pub activate_held : (s : State) (x : Item) (a i : List Item) → Held d (record s { active = a; inactive = x ∷ i })
       → Held d (record (activate x s) { active = a ++ x ∷ []; inactive = i })
   activate_held s (of_process p) a i h =
       let x = of_process p in
@@ -167,7 +167,7 @@ module _ (d : Elaborated) where
     pub keeps : Held d next
     pub same : times_by (mark_in next.threads next.slots) later ≡ times_by (mark_in s.threads s.slots) later
 
-  arrive_held : (s : State) (x : Item) (a n rest later : List Item) → Held d (record s { active = a; nonblocking = n; future = x ∷ rest ++ later })
+  pub arrive_held : (s : State) (x : Item) (a n rest later : List Item) → Held d (record s { active = a; nonblocking = n; future = x ∷ rest ++ later })
       → Arrives s (record (arrived x s) { active = a ++ filter is_process (x ∷ []); nonblocking = n ++ filter is_slot (x ∷ []); future = rest ++ later }) later
   arrive_held s (of_process p) a n rest later h =
       let x = of_process p in

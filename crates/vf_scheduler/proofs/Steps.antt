@@ -31,11 +31,11 @@ module _ (g : Item → ℕ) (at : ℕ) where
     pub later : Between (at + 1) (map g (staying f))
 
   -- all are later
-  record Later (f : List Item) : Type 0 where
-    none : coming f ≡ []
-    all : staying f ≡ f
+  pub record Later (f : List Item) : Type 0 where
+    pub none : coming f ≡ []
+    pub all : staying f ≡ f
 
-  all_later : (from : ℕ) (f : List Item) → at < from → Between from (map g f) → Later f
+  pub all_later : (from : ℕ) (f : List Item) → at < from → Between from (map g f) → Later f
   all_later from [] low h = record { none = refl; all = refl }
   all_later from (x ∷ rest) low h =
       let other = ne_eqb (g x) at (λ e. omega (arith, e, low, h.0)) in

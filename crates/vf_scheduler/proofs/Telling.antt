@@ -39,7 +39,7 @@ flag_told false true e = absurd (omega (arith, e))
 
 -- ---- slots
 
-update_narrow : (d : Elaborated) (u : Update) → IsWellFormed d → IsUpdate d u → length u.bits < 256
+pub update_narrow : (d : Elaborated) (u : Update) → IsWellFormed d → IsUpdate d u → length u.bits < 256
 update_narrow d u wf is = by (slice_get d.signals u.sig) refl is
   where
     by : (o : Option Signal) → slice_get d.signals u.sig ≡ o → IsSomeAnd o (FitsIn u) → length u.bits < 256
