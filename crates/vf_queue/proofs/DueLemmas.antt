@@ -143,10 +143,10 @@ bits_in u width ones unknown long one two = ap₂ (bits_of width) one two ∙ bi
 -- ---- what stands in which list
 
 module _ (d : Elaborated) (s : State) (sound : IsSound d s) where
-  abbrev counted : Item → ℕ
+  abbrev pub counted : Item → ℕ
   counted x = times x s.inactive + (times x s.nonblocking + (times x s.future + (times x s.strobes + times x s.active)))
 
-  all_of : (x : Item) → times x (events s) ≡ counted x
+  pub all_of : (x : Item) → times x (events s) ≡ counted x
   all_of x =
       let late = s.strobes ++ s.active in
       omega (

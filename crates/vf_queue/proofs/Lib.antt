@@ -10,3 +10,4 @@ mod SlotLemmas
 mod UpdateLemmas
 mod PostLemmas
 mod DueLemmas
+mod PromotionLemmas

@@ -5,3 +5,4 @@ pub mod Moves
 pub mod Updates
 pub mod Slots
 pub mod Due
+pub mod Promotions

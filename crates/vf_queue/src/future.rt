@@ -36,7 +36,7 @@ pub fn last_until<W: Words>(design: &Design, words: &W, patch: &Patch, at: u64) 
 }
 
 /// How many events have a number: the processes and the slots.
-fn event_count(design: &Design) -> u32
+pub fn event_count(design: &Design) -> u32
     ensures { result ≡ item_count design.now }
 {
     design.processes.len() as u32 + design.slots

@@ -21,7 +21,7 @@ pub use Rattle.vf_scheduler.proofs.Regions.{take_held, freed}
 pub use Rattle.vf_scheduler.proofs.Regions.{activate_held, Arrives, arrive_held, strobe_printed}
 pub use Rattle.vf_scheduler.proofs.Steps.{Later, all_later}
 pub use Rattle.vf_scheduler.proofs.Queues.{times_by, Between}
-pub use Rattle.vf_scheduler.proofs.Held.{time_is, mark_in}
+pub use Rattle.vf_scheduler.proofs.Held.{time_is, mark_in, between}
 -- a signal of a design, and an update of it, have few bits
 pub use Rattle.vf_scheduler.proofs.Assigned.{Sized, sized}
 pub use Rattle.vf_scheduler.proofs.Telling.{update_narrow}

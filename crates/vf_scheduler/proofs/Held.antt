@@ -80,7 +80,7 @@ time_is s = fun_ext at
     at (of_process p) = by_status (thread_of s p).status
     at (of_slot q) = by_slot (slot_of s q)
 
-between : (g : Item → ℕ) (from : ℕ) (f : List Item) → Rises from (map g f) → All (λ x. g x < 2 ^ 64) f → Between from (map g f)
+pub between : (g : Item → ℕ) (from : ℕ) (f : List Item) → Rises from (map g f) → All (λ x. g x < 2 ^ 64) f → Between from (map g f)
 between g from [] h below = tt
 between g from (x ∷ rest) h below = (h.0, All-head (λ y. g y < 2 ^ 64) x rest below, between g (g x) rest h.1 (All-tail (λ y. g y < 2 ^ 64) x rest below))
 
